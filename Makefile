@@ -1,0 +1,5 @@
+# `make test` passes everything.
+.PHONY: test
+
+test:
+	@rt ci

@@ -1,0 +1,44 @@
+-- The theorem is not empty: on document 01's board it applies to the bench list with processors 1 and 2, and says of two sequences
+-- that differ in an outsider's calls that their picks get the same answers. Assumes nothing.
+use Prim.Native.Nat.{ℕ}
+use mathlib.Core.Path.{_≡_, refl}
+use mathlib.Core.List.{List, [], _∷_}
+use lib.ListN.{replicate}
+use Rattle.rules.specs.Table.{firstOf, anyOf, allOf}
+use Rattle.rules.specs.Board.{ours, boardHost, activeHost, placeIn, rows, rowOf, onBoard}
+use Rattle.rules.specs.AccessList.{noEntry, partsFrom, namedIn, entryTable, entriesTable, listTable, verdictOf, verdictNumber, entryIn, withPart, withParts, noEntries, entriesOf, hasEntry, isMaster, isSecondary, permitted}
+use Rattle.rules.specs.Message.{kindOf, namesProcessor, isAbout}
+use Rattle.rules.specs.Call.{fresh, entryOf, accepted, afterList}
+use Rattle.rules.specs.Sequence.{Call, list, message}
+use Rattle.rules.specs.Bench.{benchList, request, handover, setConfig}
+use Rattle.noninterference.specs.Statement.{start, Loaded, insider, aboutChosen, picked, picks, answers, Noninterference}
+use Rattle.noninterference.proofs.Theorem.{noninterference}
+
+abbrev heaterAndTiming : List ℕ
+heaterAndTiming = 1 ∷ 2 ∷ []
+
+bench-loaded : Loaded ours benchList heaterAndTiming
+unfolding firstOf anyOf allOf ours boardHost activeHost placeIn rows rowOf onBoard noEntry partsFrom namedIn entryTable entriesTable listTable verdictOf verdictNumber entryIn withPart withParts noEntries entriesOf hasEntry fresh entryOf accepted afterList start
+bench-loaded = record { taken = refl; named = refl }
+
+pub on-the-bench : Noninterference ours benchList heaterAndTiming
+on-the-bench = noninterference ours benchList heaterAndTiming bench-loaded
+
+-- host 3 takes processor 1, sets its vector and hands it over to 5
+abbrev quiet : List Call
+quiet = request 3 ∷ setConfig 3 0x41C00080 0 ∷ handover 3 5 ∷ []
+
+-- the same, between calls of host 12, which is an outsider, and a list that is offered again
+abbrev disturbed : List Call
+disturbed =
+    request 12 ∷ request 3 ∷ setConfig 12 0x41C00100 0 ∷ list benchList ∷ setConfig 3 0x41C00080 0 ∷ handover 12 12 ∷ handover 3 5 ∷ request 12 ∷ []
+
+same-picks : picks ours benchList heaterAndTiming quiet ≡ picks ours benchList heaterAndTiming disturbed
+unfolding firstOf anyOf ours boardHost activeHost placeIn rows rowOf onBoard noEntry partsFrom namedIn entryTable entriesTable listTable verdictOf verdictNumber entryIn withPart withParts noEntries entriesOf hasEntry isMaster isSecondary permitted kindOf namesProcessor isAbout fresh entryOf accepted afterList start insider aboutChosen picked picks
+same-picks = refl
+
+-- so host 12 changes none of the answers
+pub undisturbed :
+    answers ours benchList heaterAndTiming (start ours benchList) quiet
+    ≡ answers ours benchList heaterAndTiming (start ours benchList) disturbed
+undisturbed = on-the-bench .same-answers quiet disturbed same-picks

@@ -1,0 +1,6 @@
+-- What is shown of the rules: the starred cases, the flag rules, and the laws that demand 3 and the code cite.
+pub mod Tests
+pub mod Bench
+pub mod Rows
+pub mod Rights
+pub mod Flags

@@ -1,0 +1,45 @@
+-- Rows: two processors of which one is on the board share a row only if they are one. For any board. Assumes nothing.
+use Prim.Native.Nat.{ℕ, suc, pred, _<_}
+use mathlib.Core.Path.{_≡_, refl, sym, _∙_, subst, ap}
+use mathlib.Core.Bool.{Bool, true, false, cond}
+use mathlib.Core.List.{List, [], _∷_}
+use mathlib.Core.Logic.{⊎-elim}
+use native.Mathlib.Nat.{not-suc-le-zero, le-of-suc-le-suc}
+use native.Mathlib.Omega.{arith}
+use lib.ListN.{length}
+use lib.Dec.{eqb}
+use borrow.Author.Tests.{eqb-true, ltb-true}
+use Rattle.rules.specs.Board.{Board, Processor, placeIn, rows, rowOf, onBoard}
+use Rattle.rules.proofs.Tests.{decide, cond-true, cond-false}
+
+-- the place of a processor at the head of the list, and of one that is not there
+at-head : (x : Processor) (xs : List Processor) (p : ℕ) → eqb (x .number) p ≡ true → placeIn (x ∷ xs) p ≡ 0
+unfolding placeIn
+at-head x xs p e = cond-true 0 (suc (placeIn xs p)) e
+
+past-head : (x : Processor) (xs : List Processor) (p : ℕ) → eqb (x .number) p ≡ false → placeIn (x ∷ xs) p ≡ suc (placeIn xs p)
+unfolding placeIn
+past-head x xs p e = cond-false 0 (suc (placeIn xs p)) e
+
+place-one : (xs : List Processor) (p r : ℕ) → placeIn xs p ≡ placeIn xs r → placeIn xs r < length xs → p ≡ r
+place-one [] p r e h = absurd (not-suc-le-zero h)
+place-one (x ∷ xs) p r e h =
+    ⊎-elim
+    (λ tp.
+    ⊎-elim (λ tr. sym (eqb-true (x .number) p tp) ∙ eqb-true (x .number) r tr)
+    (λ fr. absurd (apart (placeIn xs r) (sym (at-head x xs p tp) ∙ e ∙ past-head x xs r fr)))
+    (decide (eqb (x .number) r)))
+    (λ fp.
+    ⊎-elim (λ tr. absurd (apart (placeIn xs p) (sym (at-head x xs r tr) ∙ sym e ∙ past-head x xs p fp)))
+    (λ fr.
+    place-one xs p r (ap pred (sym (past-head x xs p fp) ∙ e ∙ past-head x xs r fr))
+    (le-of-suc-le-suc (subst (λ (n : ℕ). n < suc (length xs)) (past-head x xs r fr) h)))
+    (decide (eqb (x .number) r)))
+    (decide (eqb (x .number) p))
+  where
+    apart : (n : ℕ) → 0 ≡ suc n → ⊥
+    apart n q = omega arith
+
+pub row-one : (b : Board) (p r : ℕ) → rowOf b p ≡ rowOf b r → onBoard b r ≡ true → p ≡ r
+unfolding rowOf rows onBoard
+row-one b p r e h = place-one (b .processors) p r e (ltb-true (placeIn (b .processors) r) (length (b .processors)) h)

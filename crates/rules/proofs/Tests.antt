@@ -1,0 +1,120 @@
+-- Laws of tests, of tables and of searches, for any type. Assumes nothing.
+use Prim.Native.Nat.{ℕ, zero, suc, pred}
+use native.Mathlib.Omega.{arith}
+use mathlib.Core.Path.{_≡_, refl, sym, subst, _∙_, ap}
+use mathlib.Core.Bool.{Bool, true, false, cond, not, _&&_, _||_, true≢false}
+use mathlib.Core.List.{List, [], _∷_, _++_}
+use mathlib.Core.Logic.{_⊎_, inl, inr, ⊎-elim}
+use lib.ListN.{length, getD, set}
+use lib.Dec.{eqb}
+use borrow.Author.Tests.{eqb-true, eq-eqb}
+use Rattle.rules.specs.Table.{Line, _gives_, firstOf, anyOf, allOf}
+
+pub decide : (x : Bool) → (x ≡ true) ⊎ (x ≡ false)
+decide true = inl refl
+decide false = inr refl
+
+-- a test that holds and fails proves anything
+pub clash {ℓ} : {A : Type ℓ} {x : Bool} → x ≡ true → x ≡ false → A
+clash p q = absurd (true≢false (sym p ∙ q))
+
+pub and-left : (x y : Bool) → (x && y) ≡ true → x ≡ true
+and-left true y p = refl
+and-left false y p = p
+
+pub and-right : (x y : Bool) → (x && y) ≡ true → y ≡ true
+and-right true y p = p
+and-right false y p = clash {x = false} p refl
+
+pub and-both : {x y : Bool} → x ≡ true → y ≡ true → (x && y) ≡ true
+and-both {x} {y} p q = subst (λ (z : Bool). (z && y) ≡ true) (sym p) q
+
+pub or-cases : (x y : Bool) → (x || y) ≡ true → (x ≡ true) ⊎ (y ≡ true)
+or-cases true y p = inl refl
+or-cases false y p = inr p
+
+pub or-left : {x : Bool} (y : Bool) → x ≡ true → (x || y) ≡ true
+or-left {x} y p = subst (λ (z : Bool). (z || y) ≡ true) (sym p) refl
+
+pub or-right : (x : Bool) {y : Bool} → y ≡ true → (x || y) ≡ true
+or-right true p = refl
+or-right false p = p
+
+pub or-false-left : (x y : Bool) → (x || y) ≡ false → x ≡ false
+or-false-left true y p = p
+or-false-left false y p = refl
+
+pub or-false-right : (x y : Bool) → (x || y) ≡ false → y ≡ false
+or-false-right true y p = clash {x = true} refl p
+or-false-right false y p = p
+
+pub not-false : (x : Bool) → not x ≡ false → x ≡ true
+not-false true p = refl
+not-false false p = sym p
+
+pub not-true : (x : Bool) → not x ≡ true → x ≡ false
+not-true true p = sym p
+not-true false p = refl
+
+pub cond-true {ℓ} : {A : Type ℓ} {x : Bool} (a b : A) → x ≡ true → cond x a b ≡ a
+cond-true a b p = rw p
+
+pub cond-false {ℓ} : {A : Type ℓ} {x : Bool} (a b : A) → x ≡ false → cond x a b ≡ b
+cond-false a b p = rw p
+
+-- ---- tables
+
+-- below a table's last line the next table is read
+pub firstOf-append : {A : Type 0} (other : A) (above below : List (Line A))
+    → firstOf other (above ++ below) ≡ firstOf (firstOf other below) above
+unfolding firstOf
+firstOf-append other [] below = refl
+firstOf-append other ((test gives a) ∷ above) below = ap (cond test a) (firstOf-append other above below)
+
+-- ---- searches
+
+-- a member that passes is one that passes
+pub anyOf-member : (test : ℕ → Bool) (xs : List ℕ) (p : ℕ) → anyOf (eqb p) xs ≡ true → test p ≡ true → anyOf test xs ≡ true
+unfolding anyOf
+anyOf-member test [] p m t = m
+anyOf-member test (x ∷ xs) p m t =
+    ⊎-elim (λ e. or-left (anyOf test xs) (subst (λ (y : ℕ). test y ≡ true) (eqb-true p x e) t))
+    (λ m. or-right (test x) (anyOf-member test xs p m t))
+    (or-cases (eqb p x) (anyOf (eqb p) xs) m)
+
+-- where some element passes, a member does
+pub anyOf-find : (test : ℕ → Bool) (xs : List ℕ) → anyOf test xs ≡ true
+    → (p : ℕ) × (anyOf (eqb p) xs ≡ true) × (test p ≡ true)
+unfolding anyOf
+anyOf-find test [] m = clash {x = false} m refl
+anyOf-find test (x ∷ xs) m =
+    ⊎-elim (λ t. (x, or-left (anyOf (eqb x) xs) (eq-eqb x x refl), t))
+    (λ m.
+    let found = anyOf-find test xs m in
+    (found .0, or-right (eqb (found .0) x) (found .1), found .2))
+    (or-cases (test x) (anyOf test xs) m)
+
+-- where every element passes, a member does
+pub allOf-member : (test : ℕ → Bool) (xs : List ℕ) (p : ℕ) → allOf test xs ≡ true → anyOf (eqb p) xs ≡ true → test p ≡ true
+unfolding anyOf allOf
+allOf-member test [] p t m = clash {x = false} m refl
+allOf-member test (x ∷ xs) p t m =
+    ⊎-elim (λ e. subst (λ (y : ℕ). test y ≡ true) (sym (eqb-true p x e)) (and-left (test x) (allOf test xs) t))
+    (λ m. allOf-member test xs p (and-right (test x) (allOf test xs) t) m)
+    (or-cases (eqb p x) (anyOf (eqb p) xs) m)
+
+-- ---- stores
+
+zero≢suc : (n : ℕ) → 0 ≡ suc n → ⊥
+zero≢suc n e = omega arith
+
+-- the same store in two lists of one length leaves them alike where they were alike
+pub set-alike : {A : Type 0} (l k : List A) (i j : ℕ) (a d : A)
+    → length l ≡ length k → getD l j d ≡ getD k j d → getD (set l i a) j d ≡ getD (set k i a) j d
+set-alike [] [] i j a d n e = refl
+set-alike [] (y ∷ k) i j a d n e = absurd (zero≢suc (length k) n)
+set-alike (x ∷ l) [] i j a d n e = absurd (zero≢suc (length l) (sym n))
+set-alike (x ∷ l) (y ∷ k) zero zero a d n e = refl
+set-alike (x ∷ l) (y ∷ k) zero (suc j) a d n e = e
+set-alike (x ∷ l) (y ∷ k) (suc i) zero a d n e = e
+set-alike (x ∷ l) (y ∷ k) (suc i) (suc j) a d n e = set-alike l k i j a d (ap pred n) e

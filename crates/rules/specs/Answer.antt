@@ -1,0 +1,69 @@
+-- The answer's bytes, what a call reports, and what the answer buffer holds afterwards. Assumes nothing.
+use Prim.Native.Nat.{ℕ}
+use mathlib.Core.Bool.{Bool, cond, _&&_, _||_}
+use lib.Dec.{eqb}
+use mathlib.Core.List.{List, [], _∷_, _++_}
+use lib.ListN.{length, getD, drop}
+use Rattle.rules.specs.declared.Kind.{Kind}
+use Rattle.rules.specs.declared.Kind.the-variants.{GetStatus, WaitStatus}
+use Rattle.rules.specs.declared.Outcome.{Outcome}
+use Rattle.rules.specs.declared.Outcome.the-variants.{N9}
+use Rattle.rules.specs.declared.Record.{Record}
+use Rattle.rules.specs.declared.Report.{Report}
+use Rattle.rules.specs.Bytes.{byteAt, u32Bytes}
+use Rattle.rules.specs.Board.{Board}
+use Rattle.rules.specs.Message.{Query, answerAsked, isKind, kindIn, processorOf, waitIn}
+use Rattle.rules.specs.Wait.{checksOf, microsOf}
+use Rattle.rules.specs.Outcome.{View, outcomeOf, outcomeNumber, carriedOut, silent}
+
+-- type, host and sequence repeated, and the flags
+unfoldable pub headerWith : ℕ → List ℕ → List ℕ
+headerWith flags m = byteAt m 0 ∷ byteAt m 1 ∷ byteAt m 2 ∷ byteAt m 3 ∷ u32Bytes flags
+
+-- flags 2 for ACK or 0 for NAK
+abbrev pub ack : List ℕ → List ℕ
+ack m = headerWith 2 m
+
+abbrev pub nak : List ℕ → List ℕ
+nak m = headerWith 0 m
+
+-- ACK to get status adds processor, vector low, vector high, config, control, status
+unfoldable pub statusBytes : List ℕ → Record → ℕ → List ℕ
+statusBytes m r status =
+    processorOf m
+    ∷ (u32Bytes (r .low) ++ u32Bytes (r .high) ++ u32Bytes (r .config) ++ u32Bytes (r .control) ++ u32Bytes status)
+
+-- every other answer is the header alone
+unfoldable pub ackBytes : Kind → List ℕ → Record → ℕ → List ℕ
+ackBytes k m r status = cond (isKind k GetStatus) (ack m ++ statusBytes m r status) (ack m)
+
+-- the table's last column: ACK, none or NAK
+unfoldable pub bytesFor : Outcome → View → Query → List ℕ
+bytesFor o v q =
+    cond (carriedOut o)
+    (ackBytes (kindIn (q .message)) (q .message) (v .state) (getD (q .status) 0 0))
+    (cond (silent o) [] (nak (q .message)))
+
+-- NAK and ACK are written only when asked for
+unfoldable pub answerOf : Board → View → Query → List ℕ
+answerOf b v q = cond (answerAsked (q .message)) (bytesFor (outcomeOf b v q) v q) []
+
+-- the outcome carries the checks made and the microseconds where a wait ended, OK or N9
+unfoldable pub waited : Board → View → Query → Bool
+waited b v q =
+    isKind (kindIn (q .message)) WaitStatus
+    && (carriedOut (outcomeOf b v q) || eqb (outcomeNumber (outcomeOf b v q)) (outcomeNumber N9))
+
+-- what the call reports; other outcomes report 0 and 0
+unfoldable pub reportOf : Board → View → Query → Report
+reportOf b v q =
+    record {
+      outcome = outcomeOf b v q;
+      checks = cond (waited b v q) (checksOf (waitIn (q .message)) (q .status)) 0;
+      micros = cond (waited b v q) (microsOf (waitIn (q .message)) (q .status)) 0;
+      written = length (answerOf b v q);
+    }
+
+-- bytes of the answer buffer beyond the answer keep their values
+unfoldable pub bufferAfter : List ℕ → List ℕ → List ℕ
+bufferAfter answer held = answer ++ drop (length answer) held

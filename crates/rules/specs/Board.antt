@@ -1,0 +1,92 @@
+-- "Our board": hosts, secure or not; processors with their classes and rows; the flag bits that may be named. The rules are written
+-- over a board, and `ours` is document 01's. Assumes nothing.
+use Prim.Native.Nat.{ℕ, suc}
+use mathlib.Core.Bool.{Bool, true, false, cond, not, _&&_, _||_}
+use mathlib.Core.List.{List, [], _∷_}
+use lib.ListN.{length, getD}
+use lib.Dec.{eqb, ltb}
+use Rattle.rules.specs.Table.{anyOf}
+
+pub record Host : Type 0 where
+  pub number : ℕ
+  pub secure : Bool
+
+pub record Processor : Type 0 where
+  pub number : ℕ
+  pub class : ℕ
+
+-- host 0, the management firmware, is on every board and is not listed
+pub record Board : Type 0 where
+  pub hosts : List Host
+  pub processors : List Processor
+
+-- the classes, as places in the table of flag bits
+abbrev pub r5 : ℕ
+r5 = 0
+
+abbrev pub armv8 : ℕ
+armv8 = 1
+
+-- document 01's board
+unfoldable pub ours : Board
+ours =
+    record {
+      hosts =
+          record { number = 3; secure = true }
+          ∷ record { number = 10; secure = true }
+          ∷ record { number = 4; secure = false }
+          ∷ record { number = 5; secure = false }
+          ∷ record { number = 6; secure = false }
+          ∷ record { number = 12; secure = false }
+          ∷ record { number = 13; secure = false }
+          ∷ [];
+      processors =
+          record { number = 1; class = r5 }
+          ∷ record { number = 2; class = r5 }
+          ∷ record { number = 32; class = armv8 }
+          ∷ record { number = 33; class = armv8 }
+          ∷ [];
+    }
+
+-- h is a board host
+unfoldable pub boardHost : Board → ℕ → Bool
+boardHost b h = eqb h 0 || anyOf (λ (x : Host). eqb (x .number) h) (b .hosts)
+
+-- h is a board host but 0, which is never a sender and never a controller
+unfoldable pub activeHost : Board → ℕ → Bool
+activeHost b h = not (eqb h 0) && boardHost b h
+
+-- the place of processor p in a list, or the list's length where p is not in it
+unfoldable pub placeIn : List Processor → ℕ → ℕ
+placeIn [] p = 0
+placeIn (x ∷ xs) p = cond (eqb (x .number) p) 0 (suc (placeIn xs p))
+
+-- how many rows there are: one for each processor
+unfoldable pub rows : Board → ℕ
+rows b = length (b .processors)
+
+-- the row of processor p
+unfoldable pub rowOf : Board → ℕ → ℕ
+rowOf b p = placeIn (b .processors) p
+
+-- p is on the board
+unfoldable pub onBoard : Board → ℕ → Bool
+onBoard b p = ltb (rowOf b p) (rows b)
+
+-- the class of processor p
+unfoldable pub classOf : Board → ℕ → ℕ
+classOf b p = getD (b .processors) (rowOf b p) (record { number = 0; class = r5 }) .class
+
+-- the words of a record that hold flags, as places in a row of the table of flag bits
+abbrev pub configWord : ℕ
+configWord = 0
+
+abbrev pub controlWord : ℕ
+controlWord = 1
+
+-- the flag bits that may be named: one table indexed first by class and then by word
+abbrev pub masks : List (List ℕ)
+masks = (0xFF03 ∷ 0x3 ∷ []) ∷ (0x10F ∷ 0x103 ∷ []) ∷ []
+
+unfoldable pub maskOf : ℕ → ℕ → ℕ
+maskOf class word = getD (getD masks class []) word 0

@@ -1,0 +1,31 @@
+-- Little-endian fields, packed, as the list and the messages have them. A byte past the end reads as 0, so that every definition is
+-- total; no rule looks there. Assumes nothing.
+use Prim.Native.Nat.{ℕ, _+_, _*_, _/_, _%_, _^_}
+use mathlib.Core.Bool.{Bool}
+use mathlib.Core.List.{List, [], _∷_}
+use lib.ListN.{getD}
+use lib.Dec.{eqb}
+
+-- the byte at place i
+abbrev pub byteAt : List ℕ → ℕ → ℕ
+byteAt bytes i = getD bytes i 0
+
+-- the 16-bit number at place i
+abbrev pub u16At : List ℕ → ℕ → ℕ
+u16At bytes i = byteAt bytes i + 256 * byteAt bytes (i + 1)
+
+-- the 32-bit number at place i
+abbrev pub u32At : List ℕ → ℕ → ℕ
+u32At bytes i = u16At bytes i + 65536 * u16At bytes (i + 2)
+
+-- the four bytes of a 32-bit number
+abbrev pub u32Bytes : ℕ → List ℕ
+u32Bytes x = x % 256 ∷ x / 256 % 256 ∷ x / 65536 % 256 ∷ x / 16777216 % 256 ∷ []
+
+-- bit k of x, 0 or 1
+abbrev pub bitOf : ℕ → ℕ → ℕ
+bitOf k x = x / 2 ^ k % 2
+
+-- bit k of x is 1
+abbrev pub hasBit : ℕ → ℕ → Bool
+hasBit k x = eqb (bitOf k x) 1

@@ -1,0 +1,54 @@
+-- "Effect of OK": what each type leaves in the record of the processor it names; all other outcomes change no record. Assumes nothing.
+use Prim.Native.Nat.{ℕ}
+use mathlib.Core.Bool.{cond}
+use mathlib.Core.List.{List}
+use Rattle.rules.specs.declared.Kind.{Kind}
+use Rattle.rules.specs.declared.Kind.the-variants.{Request, Release, Handover, SetConfig, SetControl, AuthBoot, GetStatus, WaitStatus, Other}
+use Rattle.rules.specs.declared.Record.{Record}
+use Rattle.rules.specs.Board.{Board}
+use Rattle.rules.specs.Message.{Query, kindIn, newHostOf, vectorLowOf, vectorHighOf, configSetOf, configClearOf, controlSetOf, controlClearOf}
+use Rattle.rules.specs.Flags.{keepsVector, newWord}
+use Rattle.rules.specs.Outcome.{View, outcomeOf, carriedOut}
+
+-- host h controls, 0 for none; the other fields are kept
+unfoldable pub heldBy : ℕ → Record → Record
+heldBy h r =
+    record { controller = h; low = r .low; high = r .high; config = r .config; control = r .control }
+
+-- set config: the word, and the vector unless bit 28 is named
+unfoldable pub withConfig : List ℕ → Record → Record
+withConfig m r =
+    record {
+      controller = r .controller;
+      low = cond (keepsVector (configClearOf m)) (r .low) (vectorLowOf m);
+      high = cond (keepsVector (configClearOf m)) (r .high) (vectorHighOf m);
+      config = newWord (r .config) (configSetOf m) (configClearOf m);
+      control = r .control;
+    }
+
+unfoldable pub withControl : List ℕ → Record → Record
+withControl m r =
+    record {
+      controller = r .controller;
+      low = r .low;
+      high = r .high;
+      config = r .config;
+      control = newWord (r .control) (controlSetOf m) (controlClearOf m);
+    }
+
+-- request: the sender controls; release: free, other fields kept; handover: the new host controls. Get status and wait change nothing
+unfoldable pub effectOf : Kind → ℕ → List ℕ → Record → Record
+effectOf Request sender m r = heldBy sender r
+effectOf Release sender m r = heldBy 0 r
+effectOf Handover sender m r = heldBy (newHostOf m) r
+effectOf SetConfig sender m r = withConfig m r
+effectOf SetControl sender m r = withControl m r
+effectOf AuthBoot sender m r = r
+effectOf GetStatus sender m r = r
+effectOf WaitStatus sender m r = r
+effectOf Other sender m r = r
+
+-- the record of the processor named, after the call
+unfoldable pub recordAfter : Board → View → Query → Record
+recordAfter b v q =
+    cond (carriedOut (outcomeOf b v q)) (effectOf (kindIn (q .message)) (q .channel) (q .message) (v .state)) (v .state)

@@ -1,0 +1,14 @@
+-- Document 01 as definitions, in its order. `Table` and `Bytes` are what the others are written with.
+pub mod Table
+pub mod Bytes
+pub mod Board
+pub mod AccessList
+pub mod Message
+pub mod Flags
+pub mod Wait
+pub mod Outcome
+pub mod Effect
+pub mod Answer
+pub mod Call
+pub mod Sequence
+pub mod Bench

@@ -1,0 +1,77 @@
+// The types that the rules of specs/ speak of. Every crate that carries the rules out uses these,
+// so that a contract can equate what the code gives with what a rule gives. No function is here.
+
+// What a message comes to: document 01's table of outcomes, in its order.
+pub enum Outcome {
+    R1,
+    R2,
+    N1,
+    N2,
+    N3,
+    N4,
+    N5,
+    N6,
+    N7,
+    N8,
+    R3,
+    N9,
+    Ok,
+}
+
+// What an access list comes to: accepted, or refused by a row of document 01's table.
+pub enum Verdict {
+    Accepted,
+    A1,
+    A2,
+    A3,
+    A4,
+    A5,
+    A6,
+    A7,
+    A8,
+}
+
+// What a message asks for, by its type; `Other` is a type that is not in the table.
+pub enum Kind {
+    Request,
+    Release,
+    Handover,
+    SetConfig,
+    SetControl,
+    AuthBoot,
+    GetStatus,
+    WaitStatus,
+    Other,
+}
+
+// A processor's record. A controller of 0 is none, since host 0 never controls. The 64-bit boot
+// vector is kept in halves, as the messages carry it.
+pub struct Record {
+    pub controller: u32,
+    pub low: u32,
+    pub high: u32,
+    pub config: u32,
+    pub control: u32,
+}
+
+// The operands of a wait: how many checks at most, how many matching words in a row end it, the
+// microseconds of a check and before the first one, and four masks.
+pub struct Wait {
+    pub waits: u32,
+    pub matches: u32,
+    pub delay: u32,
+    pub before: u32,
+    pub allset: u32,
+    pub anyset: u32,
+    pub allclear: u32,
+    pub anyclear: u32,
+}
+
+// What a message call reports: the outcome, the checks a wait made and the microseconds it took,
+// and how many bytes were written to the answer buffer.
+pub struct Report {
+    pub outcome: Outcome,
+    pub checks: u32,
+    pub micros: u32,
+    pub written: usize,
+}
