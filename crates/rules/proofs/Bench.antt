@@ -2,14 +2,14 @@
 use mathlib.Core.Path.{_≡_, refl}
 use mathlib.Core.List.{map}
 use Rattle.rules.specs.Table.{firstOf, anyOf}
-use Rattle.rules.specs.Board.{ours, boardHost, activeHost, placeIn, rows, rowOf, onBoard, classOf, maskOf}
+use Rattle.rules.specs.Board.{ours, boardHost, activeHost, placeIn, rows, rowOf, onBoard, classAt, classOf, maskOf}
 use Rattle.rules.specs.AccessList.{noEntry, partsFrom, namedIn, entryTable, entriesTable, listTable, verdictOf, verdictNumber, entryIn, withPart, withParts, noEntries, entriesOf, hasEntry, isMaster, isSecondary, permitted}
-use Rattle.rules.specs.Message.{answerAsked, sizeOf, kindOf, waitIn}
+use Rattle.rules.specs.Message.{answerAsked, kindOf, waitIn}
 use Rattle.rules.specs.Flags.{clearMaskOf, flagsGood, vectorGood}
 use Rattle.rules.specs.Wait.{wordMatches, runAfter, endsRun, firstEnd, endingCheck, ranOut, checksOf, microsOf, waitGood}
 use Rattle.rules.specs.Outcome.{senderWrong, mayRequest, hasRight, configGood, controlGood, operandsGood, wordsMissing, waitFailed, outcomeTable, outcomeOf, outcomeNumber, carriedOut, silent}
 use Rattle.rules.specs.Effect.{heldBy, withConfig, withControl, effectOf, recordAfter}
-use Rattle.rules.specs.Answer.{headerWith, statusBytes, ackBytes, bytesFor, answerOf, waited, reportOf}
+use Rattle.rules.specs.Answer.{ackBytes, bytesFor, answerOf, waited, reportOf}
 use Rattle.rules.specs.Call.{freeRecord, fresh, entryOf, recordOf, viewOf, accepted, afterList, afterMessage}
 use Rattle.rules.specs.Sequence.{next, run, answerTo}
 use Rattle.rules.specs.Bench.{Case, Given, givenIn, answerGiven, starred}
@@ -17,5 +17,5 @@ use Rattle.rules.specs.Bench.{Case, Given, givenIn, answerGiven, starred
 -- each row gives what it says
 pub starred-hold :
     map (λ (c : Case). givenIn (run ours (fresh ours) (c .earlier)) (c .call)) starred ≡ map (λ (c : Case). c .gives) starred
-unfolding firstOf anyOf ours boardHost activeHost placeIn rows rowOf onBoard classOf maskOf noEntry partsFrom namedIn entryTable entriesTable listTable verdictOf verdictNumber entryIn withPart withParts noEntries entriesOf hasEntry isMaster isSecondary permitted answerAsked sizeOf kindOf waitIn clearMaskOf flagsGood vectorGood wordMatches runAfter endsRun firstEnd endingCheck ranOut checksOf microsOf waitGood senderWrong mayRequest hasRight configGood controlGood operandsGood wordsMissing waitFailed outcomeTable outcomeOf outcomeNumber carriedOut silent heldBy withConfig withControl effectOf recordAfter headerWith statusBytes ackBytes bytesFor answerOf waited reportOf freeRecord fresh entryOf recordOf viewOf accepted afterList afterMessage next run answerTo givenIn answerGiven starred
+unfolding firstOf anyOf ours boardHost activeHost placeIn rows rowOf onBoard classAt classOf maskOf noEntry partsFrom namedIn entryTable entriesTable listTable verdictOf verdictNumber entryIn withPart withParts noEntries entriesOf hasEntry isMaster isSecondary permitted answerAsked kindOf waitIn clearMaskOf flagsGood vectorGood wordMatches runAfter endsRun firstEnd endingCheck ranOut checksOf microsOf waitGood senderWrong mayRequest hasRight configGood controlGood operandsGood wordsMissing waitFailed outcomeTable outcomeOf outcomeNumber carriedOut silent heldBy withConfig withControl effectOf recordAfter ackBytes bytesFor answerOf waited reportOf freeRecord fresh entryOf recordOf viewOf accepted afterList afterMessage next run answerTo givenIn answerGiven starred
 starred-hold = refl

@@ -175,7 +175,7 @@ module _ (b : Board) (v : View) (q : Query) (sound : soundly b (v .entry) (v .st
 
 -- every type but authenticated boot has its processor in byte 8
 size-covers : (k : Kind) → typeUnknown k ≡ false → notOffered k ≡ false → (namesProcessor k ≡ true) × (9 ≤ sizeOf k)
-unfolding namesProcessor sizeOf
+unfolding namesProcessor
 size-covers Request u o = (refl, lit≤ tt)
 size-covers Release u o = (refl, lit≤ tt)
 size-covers Handover u o = (refl, lit≤ tt)

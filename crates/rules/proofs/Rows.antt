@@ -13,11 +13,11 @@ use Rattle.rules.specs.Board.{Board, Processor, placeIn, rows, rowOf, on
 use Rattle.rules.proofs.Tests.{decide, cond-true, cond-false}
 
 -- the place of a processor at the head of the list, and of one that is not there
-at-head : (x : Processor) (xs : List Processor) (p : ℕ) → eqb (x .number) p ≡ true → placeIn (x ∷ xs) p ≡ 0
+at-head : (x : Processor) (xs : List Processor) (p : ℕ) → eqb p (x .number) ≡ true → placeIn (x ∷ xs) p ≡ 0
 unfolding placeIn
 at-head x xs p e = cond-true 0 (suc (placeIn xs p)) e
 
-past-head : (x : Processor) (xs : List Processor) (p : ℕ) → eqb (x .number) p ≡ false → placeIn (x ∷ xs) p ≡ suc (placeIn xs p)
+past-head : (x : Processor) (xs : List Processor) (p : ℕ) → eqb p (x .number) ≡ false → placeIn (x ∷ xs) p ≡ suc (placeIn xs p)
 unfolding placeIn
 past-head x xs p e = cond-false 0 (suc (placeIn xs p)) e
 
@@ -26,16 +26,16 @@ place-one [] p r e h = absurd (not-suc-le-zero h)
 place-one (x ∷ xs) p r e h =
     ⊎-elim
     (λ tp.
-    ⊎-elim (λ tr. sym (eqb-true (x .number) p tp) ∙ eqb-true (x .number) r tr)
+    ⊎-elim (λ tr. eqb-true p (x .number) tp ∙ sym (eqb-true r (x .number) tr))
     (λ fr. absurd (apart (placeIn xs r) (sym (at-head x xs p tp) ∙ e ∙ past-head x xs r fr)))
-    (decide (eqb (x .number) r)))
+    (decide (eqb r (x .number))))
     (λ fp.
     ⊎-elim (λ tr. absurd (apart (placeIn xs p) (sym (at-head x xs r tr) ∙ sym e ∙ past-head x xs p fp)))
     (λ fr.
     place-one xs p r (ap pred (sym (past-head x xs p fp) ∙ e ∙ past-head x xs r fr))
     (le-of-suc-le-suc (subst (λ (n : ℕ). n < suc (length xs)) (past-head x xs r fr) h)))
-    (decide (eqb (x .number) r)))
-    (decide (eqb (x .number) p))
+    (decide (eqb r (x .number))))
+    (decide (eqb p (x .number)))
   where
     apart : (n : ℕ) → 0 ≡ suc n → ⊥
     apart n q = omega arith

@@ -17,7 +17,7 @@ use Rattle.rules.specs.Wait.{checksOf, microsOf}
 use Rattle.rules.specs.Outcome.{View, outcomeOf, outcomeNumber, carriedOut, silent}
 
 -- type, host and sequence repeated, and the flags
-unfoldable pub headerWith : ℕ → List ℕ → List ℕ
+abbrev pub headerWith : ℕ → List ℕ → List ℕ
 headerWith flags m = byteAt m 0 ∷ byteAt m 1 ∷ byteAt m 2 ∷ byteAt m 3 ∷ u32Bytes flags
 
 -- flags 2 for ACK or 0 for NAK
@@ -28,7 +28,7 @@ abbrev pub nak : List ℕ → List ℕ
 nak m = headerWith 0 m
 
 -- ACK to get status adds processor, vector low, vector high, config, control, status
-unfoldable pub statusBytes : List ℕ → Record → ℕ → List ℕ
+abbrev pub statusBytes : List ℕ → Record → ℕ → List ℕ
 statusBytes m r status =
     processorOf m
     ∷ (u32Bytes (r .low) ++ u32Bytes (r .high) ++ u32Bytes (r .config) ++ u32Bytes (r .control) ++ u32Bytes status)
@@ -65,5 +65,5 @@ reportOf b v q =
     }
 
 -- bytes of the answer buffer beyond the answer keep their values
-unfoldable pub bufferAfter : List ℕ → List ℕ → List ℕ
+abbrev pub bufferAfter : List ℕ → List ℕ → List ℕ
 bufferAfter answer held = answer ++ drop (length answer) held

@@ -2,7 +2,7 @@
 -- over a board, and `ours` is document 01's. Assumes nothing.
 use Prim.Native.Nat.{ℕ, suc}
 use mathlib.Core.Bool.{Bool, true, false, cond, not, _&&_, _||_}
-use mathlib.Core.List.{List, [], _∷_}
+use mathlib.Core.List.{List, [], _∷_, map}
 use lib.ListN.{length, getD}
 use lib.Dec.{eqb, ltb}
 use Rattle.rules.specs.Table.{anyOf}
@@ -50,7 +50,7 @@ ours =
 
 -- h is a board host
 unfoldable pub boardHost : Board → ℕ → Bool
-boardHost b h = eqb h 0 || anyOf (λ (x : Host). eqb (x .number) h) (b .hosts)
+boardHost b h = eqb h 0 || anyOf (λ (x : Host). eqb h (x .number)) (b .hosts)
 
 -- h is a board host but 0, which is never a sender and never a controller
 unfoldable pub activeHost : Board → ℕ → Bool
@@ -59,7 +59,7 @@ activeHost b h = not (eqb h 0) && boardHost b h
 -- the place of processor p in a list, or the list's length where p is not in it
 unfoldable pub placeIn : List Processor → ℕ → ℕ
 placeIn [] p = 0
-placeIn (x ∷ xs) p = cond (eqb (x .number) p) 0 (suc (placeIn xs p))
+placeIn (x ∷ xs) p = cond (eqb p (x .number)) 0 (suc (placeIn xs p))
 
 -- how many rows there are: one for each processor
 unfoldable pub rows : Board → ℕ
@@ -73,9 +73,13 @@ rowOf b p = placeIn (b .processors) p
 unfoldable pub onBoard : Board → ℕ → Bool
 onBoard b p = ltb (rowOf b p) (rows b)
 
+-- the class of the processor at a row
+unfoldable pub classAt : Board → ℕ → ℕ
+classAt b row = getD (map (λ (x : Processor). x .class) (b .processors)) row r5
+
 -- the class of processor p
 unfoldable pub classOf : Board → ℕ → ℕ
-classOf b p = getD (b .processors) (rowOf b p) (record { number = 0; class = r5 }) .class
+classOf b p = classAt b (rowOf b p)
 
 -- the words of a record that hold flags, as places in a row of the table of flag bits
 abbrev pub configWord : ℕ

@@ -16,7 +16,8 @@ u16At bytes i = byteAt bytes i + 256 * byteAt bytes (i + 1)
 
 -- the 32-bit number at place i
 abbrev pub u32At : List ℕ → ℕ → ℕ
-u32At bytes i = u16At bytes i + 65536 * u16At bytes (i + 2)
+u32At bytes i =
+    byteAt bytes i + 256 * byteAt bytes (i + 1) + 65536 * byteAt bytes (i + 2) + 16777216 * byteAt bytes (i + 3)
 
 -- the four bytes of a 32-bit number
 abbrev pub u32Bytes : ℕ → List ℕ

@@ -38,7 +38,7 @@ typeNumber WaitStatus = 0xC401
 typeNumber Other = 0
 
 -- the size of the type's structure, with the header. A type that is not in the table has no structure to be shorter than
-unfoldable pub sizeOf : Kind → ℕ
+abbrev pub sizeOf : Kind → ℕ
 sizeOf Request = 9
 sizeOf Release = 9
 sizeOf Handover = 10

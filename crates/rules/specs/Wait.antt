@@ -1,9 +1,9 @@
 -- "Wait": when a status word matches, the first check that ends a run of `matches` matching words in a row, and what a wait reports.
 -- Assumes nothing.
-use Prim.Native.Nat.{ℕ, zero, suc, _+_, _*_, _-_}
+use Prim.Native.Nat.{ℕ, zero, suc, _+_, _*_, min}
 use mathlib.Core.Bool.{Bool, cond, not, _&&_, _||_}
 use mathlib.Core.List.{List}
-use lib.ListN.{getD}
+use lib.ListN.{length, getD}
 use lib.Bits.{bitAnd}
 use lib.Dec.{eqb, leb}
 use Rattle.rules.specs.declared.Wait.{Wait}
@@ -32,9 +32,9 @@ firstEnd w words n (suc left) =
     let later = firstEnd w words (suc n) left in
     cond (endsRun w words (suc n)) (suc n) later
 
--- the words are checked in order, never more than `waits` of them
+-- the words are checked in order, never more than `waits` of them, and none that is not there
 unfoldable pub endingCheck : Wait → List ℕ → ℕ
-endingCheck w words = firstEnd w words 0 (w .waits)
+endingCheck w words = firstEnd w words 0 (min (w .waits) (length words))
 
 -- no check ended a run
 unfoldable pub ranOut : Wait → List ℕ → Bool

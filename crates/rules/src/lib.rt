@@ -57,10 +57,10 @@ pub struct Record {
 // The operands of a wait: how many checks at most, how many matching words in a row end it, the
 // microseconds of a check and before the first one, and four masks.
 pub struct Wait {
-    pub waits: u32,
-    pub matches: u32,
-    pub delay: u32,
-    pub before: u32,
+    pub waits: u8,
+    pub matches: u8,
+    pub delay: u8,
+    pub before: u8,
     pub allset: u32,
     pub anyset: u32,
     pub allclear: u32,

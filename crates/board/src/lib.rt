@@ -1,0 +1,70 @@
+// Document 01's board: its hosts, its processors with their rows and classes, and the flag bits that
+// may be named. Each function gives what the definition of the same name in rules/specs/Board.antt
+// gives, for any number.
+ghost use mathlib.Core.Path.{_≡_};
+ghost use Rattle.rules.specs.Board.{ours, boardHost, activeHost, rowOf, classAt, maskOf};
+
+// How many rows the board has: one for each processor.
+pub const ROWS: usize = 4;
+
+// The class of each row's processor.
+const CLASSES: [usize; ROWS] = [0, 0, 1, 1];
+
+// The flag bits that may be named, indexed first by class and then by word.
+const MASKS: [[u32; 2]; 2] = [[0xFF03, 0x3], [0x10F, 0x103]];
+
+// Whether `host` is on the board. Hosts of an access list have 16 bits and are compared as such.
+pub fn is_host(host: u16) -> bool
+    ensures { λ r. ⌜ r ≡ boardHost ours host ⌝ }
+{
+    (host == 0)
+        | (host == 3)
+        | (host == 10)
+        | (host == 4)
+        | (host == 5)
+        | (host == 6)
+        | (host == 12)
+        | (host == 13)
+}
+
+// Whether `host` is on the board and not 0, the management firmware, which never sends or controls.
+pub fn is_active(host: u16) -> bool
+    ensures { λ r. ⌜ r ≡ activeHost ours host ⌝ }
+{
+    (host != 0) & is_host(host)
+}
+
+// The row of `processor`, or `ROWS` where it is not on the board. The only way to a row.
+pub fn row_of(processor: u8) -> usize
+    ensures { λ r. ⌜ r ≡ rowOf ours processor ⌝ }
+{
+    match processor {
+        1 => 0,
+        2 => 1,
+        32 => 2,
+        33 => 3,
+        _ => ROWS,
+    }
+}
+
+// The class of the processor at `row`: 0 for R5, 1 for ARMv8.
+pub fn class_at(row: usize) -> usize
+    ensures { λ r. ⌜ r ≡ classAt ours row ⌝ }
+{
+    if row < ROWS {
+        return CLASSES[row];
+    }
+    0
+}
+
+// The flag bits that may be named in `word`, 0 for config and 1 for control, by a processor's class.
+pub fn mask_of(class: usize, word: usize) -> u32
+    ensures { λ r. ⌜ r ≡ maskOf class word ⌝ }
+{
+    if class < 2 {
+        if word < 2 {
+            return MASKS[class][word];
+        }
+    }
+    0
+}
