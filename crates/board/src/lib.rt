@@ -5,10 +5,10 @@ ghost use mathlib.Core.Path.{_≡_};
 ghost use Rattle.rules.specs.Board.{ours, boardHost, activeHost, rowOf, classAt, maskOf};
 
 // How many rows the board has: one for each processor.
-pub const ROWS: usize = 4;
+pub const ROWS: u8 = 4;
 
 // The class of each row's processor.
-const CLASSES: [usize; ROWS] = [0, 0, 1, 1];
+const CLASSES: [usize; 4] = [0, 0, 1, 1];
 
 // The flag bits that may be named, indexed first by class and then by word.
 const MASKS: [[u32; 2]; 2] = [[0xFF03, 0x3], [0x10F, 0x103]];
@@ -35,7 +35,7 @@ pub fn is_active(host: u16) -> bool
 }
 
 // The row of `processor`, or `ROWS` where it is not on the board. The only way to a row.
-pub fn row_of(processor: u8) -> usize
+pub fn row_of(processor: u8) -> u8
     ensures { λ r. ⌜ r ≡ rowOf ours processor ⌝ }
 {
     match processor {
@@ -48,11 +48,11 @@ pub fn row_of(processor: u8) -> usize
 }
 
 // The class of the processor at `row`: 0 for R5, 1 for ARMv8.
-pub fn class_at(row: usize) -> usize
+pub fn class_at(row: u8) -> usize
     ensures { λ r. ⌜ r ≡ classAt ours row ⌝ }
 {
     if row < ROWS {
-        return CLASSES[row];
+        return CLASSES[row as usize];
     }
     0
 }

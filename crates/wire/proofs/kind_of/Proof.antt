@@ -41,15 +41,16 @@ returns-9 : tie.Need-returns-9
 unfolding kindOf firstOf
 returns-9 c =
     let rest = c .match .rest in
-    simp
-    (ne-eqb _ 0xC000 (rest .0 .0 .0 .0 .0 .0 .0 .1),
+    simp (
+      ne-eqb _ 0xC000 (rest .0 .0 .0 .0 .0 .0 .0 .1),
       ne-eqb _ 0xC001 (rest .0 .0 .0 .0 .0 .0 .1),
       ne-eqb _ 0xC005 (rest .0 .0 .0 .0 .0 .1),
       ne-eqb _ 0xC100 (rest .0 .0 .0 .0 .1),
       ne-eqb _ 0xC101 (rest .0 .0 .0 .1),
       ne-eqb _ 0xC120 (rest .0 .0 .1),
       ne-eqb _ 0xC400 (rest .0 .1),
-      ne-eqb _ 0xC401 (rest .1))
+      ne-eqb _ 0xC401 (rest .1),
+    )
 
 pub kind-of-spec : {M : Type 1} → statement M
 kind-of-spec =

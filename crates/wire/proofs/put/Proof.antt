@@ -47,13 +47,12 @@ loop-again : tie.Need-loop-again Inv-loop μ-loop
 loop-again c =
     let i = c .before .before .loop .i in
     let d = now (c .before .before .before .before .args .buffer) in
-    let s = now (c .before .before .before .before .args .bytes) in
-    (
+    let s = now (c .before .before .before .before .args .bytes) in (
       omega arith,
       ap (λ (l : List ℕ). set l i (getD s i 0)) (c .before .before .loop .inv .1)
           ∙ copied d s i (omega arith) (omega arith)
           ∙ ap (λ (n : ℕ). take n s ++ drop n d) (sym (add-one i)),
-      length-set (c .before .before .loop .buffer) i (getD s i 0) ∙ c .before .before .loop .inv .2
+      length-set (c .before .before .loop .buffer) i (getD s i 0) ∙ c .before .before .loop .inv .2,
     )
 
 same-length : tie.Need-same-length Inv-loop μ-loop
@@ -64,13 +63,12 @@ returns-2 c =
     let d = now (c .before .before .before .args .buffer) in
     let s = now (c .before .before .before .args .bytes) in
     let room = le-leb _ _ (c .before .before .if1 .left) in
-    let all : c .before .loop .i ≡ length s = omega arith in
-    (
+    let all : c .before .loop .i ≡ length s = omega arith in (
       rw room all,
       rw room
           (c .before .loop .inv .1
           ∙ ap (λ (n : ℕ). take n s ++ drop n d) all
-          ∙ ap (λ (l : List ℕ). l ++ drop (length s) d) (take-length s))
+          ∙ ap (λ (l : List ℕ). l ++ drop (length s) d) (take-length s)),
     )
 
 pub put-spec : {M : Type 1} → statement M

@@ -1,0 +1,2 @@
+-- What the lent access memory holds.
+pub mod Memory

@@ -1,0 +1,8 @@
+// The access list: judged, stored in lent memory, and asked who is permitted. The memory's layout is
+// specs/Memory.antt; any content of it is a state. Hosts are 16-bit numbers throughout.
+mod asked;
+
+pub use asked::is_listed;
+pub use asked::is_master;
+pub use asked::is_permitted;
+pub use asked::word_at;
