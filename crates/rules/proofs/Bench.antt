@@ -17,5 +17,5 @@ use Rattle.rules.specs.Bench.{Case, Given, givenIn, answerGiven, starred
 -- each row gives what it says
 pub starred-hold :
     map (λ (c : Case). givenIn (run ours (fresh ours) (c .earlier)) (c .call)) starred ≡ map (λ (c : Case). c .gives) starred
-unfolding firstOf anyOf ours boardHost activeHost placeIn rows rowOf onBoard classAt classOf maskOf noEntry partsFrom namedIn entryTable entriesTable listTable verdictOf verdictNumber entryIn withPart withParts noEntries entriesOf hasEntry isMaster isSecondary permitted answerAsked kindOf waitIn clearMaskOf flagsGood vectorGood wordMatches runAfter endsRun firstEnd endingCheck ranOut checksOf microsOf waitGood senderWrong mayRequest hasRight configGood controlGood operandsGood wordsMissing waitFailed outcomeTable outcomeOf outcomeNumber carriedOut silent heldBy withConfig withControl effectOf recordAfter ackBytes bytesFor answerOf waited reportOf freeRecord fresh entryOf recordOf viewOf accepted afterList afterMessage next run answerTo givenIn answerGiven starred
+unfolding firstOf anyOf ours boardHost activeHost placeIn rows rowOf onBoard classAt classOf maskOf noEntry partsFrom namedIn entryTable entriesTable listTable verdictOf verdictNumber entryIn withPart withParts noEntries entriesOf hasEntry isMaster isSecondary permitted answerAsked kindOf waitIn runAfter endsRun firstEnd endingCheck ranOut checksOf microsOf senderWrong wordsMissing waitFailed outcomeTable outcomeOf outcomeNumber carriedOut silent recordAfter ackBytes bytesFor answerOf waited reportOf freeRecord fresh entryOf recordOf viewOf accepted afterList afterMessage next run answerTo givenIn answerGiven starred
 starred-hold = refl

@@ -71,7 +71,6 @@ mask-no-28 (suc (suc class)) word = refl
 
 -- whatever the class and the word
 pub flag-rules : (class word old set clear : ℕ) → clear < 2 ^ 32 → flagsGood class word set clear ≡ true → FlagRules class word old set clear
-unfolding flagsGood
 flag-rules class word old set clear f good =
     let pair = and-left (within (maskOf class word) set && within (clearMaskOf class word) clear) (eqb (bitAnd set clear) 0) good in
     let apart = eqb-true (bitAnd set clear) 0 (and-right (within (maskOf class word) set && within (clearMaskOf class word) clear) (eqb (bitAnd set clear) 0) good) in

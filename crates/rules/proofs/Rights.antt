@@ -15,7 +15,7 @@ use Rattle.rules.specs.declared.Outcome.{Outcome}
 use Rattle.rules.specs.declared.Outcome.the-variants.{R1, R2, N1, N2, N3, N4, N5, N6, N7, N8, R3, N9, Ok}
 use Rattle.rules.specs.declared.Record.{Record}
 use Rattle.rules.specs.Table.{Line, _gives_, firstOf}
-use Rattle.rules.specs.Board.{Board, activeHost, onBoard}
+use Rattle.rules.specs.Board.{Board, activeHost, onBoard, classOf}
 use Rattle.rules.specs.AccessList.{Entry, noEntry, hasEntry, isMaster, isSecondary, permitted}
 use Rattle.rules.specs.Message.{Query, hostOf, kindIn, sizeOf, isKind, processorOf, newHostOf, namesProcessor, isAbout}
 use Rattle.rules.specs.Outcome.{View, roomTooSmall, lengthWrong, senderWrong, typeUnknown, tooShort, notOffered, isFree, isController, mayRequest, hasRight, operandsGood, wordsMissing, waitFailed, outcomeTable, outcomeOf, outcomeNumber, carriedOut}
@@ -39,13 +39,13 @@ module _ (test : Bool) (o : Outcome) (below : List (Line Outcome)) (refuses : ca
 -- what the rows say of a message that is carried out
 pub record Allowed (b : Board) (v : View) (q : Query) (k : Kind) : Type 0 where
   pub listed : v .listed ≡ true
-  pub sender : senderWrong b q ≡ false
+  pub sender : senderWrong b (q .channel) (q .message) ≡ false
   pub known : typeUnknown k ≡ false
-  pub whole : tooShort q ≡ false
+  pub whole : tooShort k (q .message) ≡ false
   pub offered : notOffered k ≡ false
   pub onboard : onBoard b (processorOf (q .message)) ≡ true
-  pub right : hasRight k b v (q .channel) ≡ true
-  pub operands : operandsGood k b v (q .message) ≡ true
+  pub right : hasRight k b (v .entry) (v .state) (q .channel) ≡ true
+  pub operands : operandsGood k b (v .entry) (classOf b (processorOf (q .message))) (q .message) ≡ true
 
 module _ (b : Board) (v : View) (q : Query) where
   pub allowed : carriedOut (outcomeOf b v q) ≡ true → Allowed b v q (kindIn (q .message))
@@ -74,10 +74,9 @@ module _ (b : Board) (v : View) (q : Query) where
 -- ---- who has a right on a processor with an entry
 
 -- the sender is a board host and not 0
-pub sender-active : (b : Board) (q : Query) → senderWrong b q ≡ false → activeHost b (q .channel) ≡ true
+pub sender-active : (b : Board) (h : ℕ) (m : List ℕ) → senderWrong b h m ≡ false → activeHost b h ≡ true
 unfolding senderWrong
-sender-active b q e =
-    not-false (activeHost b (q .channel)) (or-false-left (not (activeHost b (q .channel))) (not (eqb (q .channel) (hostOf (q .message)))) e)
+sender-active b h m e = not-false (activeHost b h) (or-false-left (not (activeHost b h)) (not (eqb h (hostOf m))) e)
 
 pub active-not-zero : (b : Board) (h : ℕ) → activeHost b h ≡ true → eqb h 0 ≡ false
 unfolding activeHost
@@ -105,46 +104,41 @@ controller-permitted b e r h s z c =
     let is : r .controller ≡ h = eqb-true (r .controller) h c in
     ⊎-elim (λ free. clash (rw is at free) z) (λ p. rw is at p) (or-cases (isFree r) (permitted b e (r .controller)) s)
 
-requester-permitted : (b : Board) (v : View) (h : ℕ) → mayRequest b v h ≡ true → permitted b (v .entry) h ≡ true
-unfolding mayRequest
-requester-permitted b v h m =
-    ⊎-elim (λ p. and-right (isFree (v .state)) (permitted b (v .entry) h) p) (λ p. master-permitted b (v .entry) h p)
-    (or-cases (isFree (v .state) && permitted b (v .entry) h) (isMaster (v .entry) h) m)
+requester-permitted : (b : Board) (e : Entry) (r : Record) (h : ℕ) → mayRequest b e r h ≡ true → permitted b e h ≡ true
+requester-permitted b e r h m =
+    ⊎-elim (λ p. and-right (isFree r) (permitted b e h) p) (λ p. master-permitted b e h p)
+    (or-cases (isFree r && permitted b e h) (isMaster e h) m)
 
 -- a right on a processor that is soundly held is a right that its entry names
-pub right-permitted : (k : Kind) (b : Board) (v : View) (h : ℕ)
-    → soundly b (v .entry) (v .state) ≡ true → eqb h 0 ≡ false → hasRight k b v h ≡ true → permitted b (v .entry) h ≡ true
-unfolding hasRight
-right-permitted Request b v h s z r = requester-permitted b v h r
-right-permitted Release b v h s z r = controller-permitted b (v .entry) (v .state) h s z r
-right-permitted Handover b v h s z r = controller-permitted b (v .entry) (v .state) h s z r
-right-permitted SetConfig b v h s z r = controller-permitted b (v .entry) (v .state) h s z r
-right-permitted SetControl b v h s z r = controller-permitted b (v .entry) (v .state) h s z r
-right-permitted AuthBoot b v h s z r = clash {x = false} r refl
-right-permitted GetStatus b v h s z r = r
-right-permitted WaitStatus b v h s z r = r
-right-permitted Other b v h s z r = clash {x = false} r refl
+pub right-permitted : (k : Kind) (b : Board) (e : Entry) (r : Record) (h : ℕ)
+    → soundly b e r ≡ true → eqb h 0 ≡ false → hasRight k b e r h ≡ true → permitted b e h ≡ true
+right-permitted Request b e r h s z t = requester-permitted b e r h t
+right-permitted Release b e r h s z t = controller-permitted b e r h s z t
+right-permitted Handover b e r h s z t = controller-permitted b e r h s z t
+right-permitted SetConfig b e r h s z t = controller-permitted b e r h s z t
+right-permitted SetControl b e r h s z t = controller-permitted b e r h s z t
+right-permitted AuthBoot b e r h s z t = clash {x = false} t refl
+right-permitted GetStatus b e r h s z t = t
+right-permitted WaitStatus b e r h s z t = t
+right-permitted Other b e r h s z t = clash {x = false} t refl
 
 -- ---- what an effect leaves
 
 heldBy-sound : (b : Board) (e : Entry) (r : Record) (h : ℕ) → permitted b e h ≡ true → soundly b e (heldBy h r) ≡ true
-unfolding heldBy
 heldBy-sound b e r h p = or-right (eqb h 0) p
 
 -- an effect leaves the processor free or with a permitted host
-effect-sound : (k : Kind) (b : Board) (v : View) (h : ℕ) (m : List ℕ)
-    → soundly b (v .entry) (v .state) ≡ true → permitted b (v .entry) h ≡ true → operandsGood k b v m ≡ true
-    → soundly b (v .entry) (effectOf k h m (v .state)) ≡ true
-unfolding effectOf operandsGood withConfig withControl heldBy
-effect-sound Request b v h m s p g = heldBy-sound b (v .entry) (v .state) h p
-effect-sound Release b v h m s p g = refl
-effect-sound Handover b v h m s p g = heldBy-sound b (v .entry) (v .state) (newHostOf m) g
-effect-sound SetConfig b v h m s p g = s
-effect-sound SetControl b v h m s p g = s
-effect-sound AuthBoot b v h m s p g = s
-effect-sound GetStatus b v h m s p g = s
-effect-sound WaitStatus b v h m s p g = s
-effect-sound Other b v h m s p g = s
+effect-sound : (k : Kind) (b : Board) (e : Entry) (r : Record) (h class : ℕ) (m : List ℕ)
+    → soundly b e r ≡ true → permitted b e h ≡ true → operandsGood k b e class m ≡ true → soundly b e (effectOf k h m r) ≡ true
+effect-sound Request b e r h class m s p g = heldBy-sound b e r h p
+effect-sound Release b e r h class m s p g = refl
+effect-sound Handover b e r h class m s p g = heldBy-sound b e r (newHostOf m) g
+effect-sound SetConfig b e r h class m s p g = s
+effect-sound SetControl b e r h class m s p g = s
+effect-sound AuthBoot b e r h class m s p g = s
+effect-sound GetStatus b e r h class m s p g = s
+effect-sound WaitStatus b e r h class m s p g = s
+effect-sound Other b e r h class m s p g = s
 
 -- a refusal changes no record
 pub refusal-keeps : (b : Board) (v : View) (q : Query) → carriedOut (outcomeOf b v q) ≡ false → recordAfter b v q ≡ v .state
@@ -156,8 +150,8 @@ module _ (b : Board) (v : View) (q : Query) (sound : soundly b (v .entry) (v .st
   pub sender-permitted : carriedOut (outcomeOf b v q) ≡ true → permitted b (v .entry) (q .channel) ≡ true
   sender-permitted ok =
       let a = allowed b v q ok in
-      right-permitted (kindIn (q .message)) b v (q .channel) sound
-      (active-not-zero b (q .channel) (sender-active b q (a .sender)))
+      right-permitted (kindIn (q .message)) b (v .entry) (v .state) (q .channel) sound
+      (active-not-zero b (q .channel) (sender-active b (q .channel) (q .message) (a .sender)))
       (a .right)
 
   -- every call leaves the processor free or with a permitted host
@@ -167,7 +161,7 @@ module _ (b : Board) (v : View) (q : Query) (sound : soundly b (v .entry) (v .st
       ⊎-elim
       (λ ok.
       rw (cond-true (effectOf (kindIn (q .message)) (q .channel) (q .message) (v .state)) (v .state) ok)
-      (effect-sound (kindIn (q .message)) b v (q .channel) (q .message) sound (sender-permitted ok) (allowed b v q ok .operands)))
+      (effect-sound (kindIn (q .message)) b (v .entry) (v .state) (q .channel) _ (q .message) sound (sender-permitted ok) (allowed b v q ok .operands)))
       (λ no. rw (cond-false (effectOf (kindIn (q .message)) (q .channel) (q .message) (v .state)) (v .state) no) sound)
       (decide (carriedOut (outcomeOf b v q)))
 

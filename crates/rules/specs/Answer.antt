@@ -38,29 +38,25 @@ unfoldable pub ackBytes : Kind → List ℕ → Record → ℕ → List ℕ
 ackBytes k m r status = cond (isKind k GetStatus) (ack m ++ statusBytes m r status) (ack m)
 
 -- the table's last column: ACK, none or NAK
-unfoldable pub bytesFor : Outcome → View → Query → List ℕ
-bytesFor o v q =
-    cond (carriedOut o)
-    (ackBytes (kindIn (q .message)) (q .message) (v .state) (getD (q .status) 0 0))
-    (cond (silent o) [] (nak (q .message)))
+unfoldable pub bytesFor : Outcome → List ℕ → Record → ℕ → List ℕ
+bytesFor o m r status = cond (carriedOut o) (ackBytes (kindIn m) m r status) (cond (silent o) [] (nak m))
 
--- NAK and ACK are written only when asked for
+-- NAK and ACK are written only when asked for. The first status word is the status now
 unfoldable pub answerOf : Board → View → Query → List ℕ
-answerOf b v q = cond (answerAsked (q .message)) (bytesFor (outcomeOf b v q) v q) []
+answerOf b v q =
+    cond (answerAsked (q .message)) (bytesFor (outcomeOf b v q) (q .message) (v .state) (getD (q .status) 0 0)) []
 
 -- the outcome carries the checks made and the microseconds where a wait ended, OK or N9
-unfoldable pub waited : Board → View → Query → Bool
-waited b v q =
-    isKind (kindIn (q .message)) WaitStatus
-    && (carriedOut (outcomeOf b v q) || eqb (outcomeNumber (outcomeOf b v q)) (outcomeNumber N9))
+unfoldable pub waited : Kind → Outcome → Bool
+waited k o = isKind k WaitStatus && (carriedOut o || eqb (outcomeNumber o) (outcomeNumber N9))
 
 -- what the call reports; other outcomes report 0 and 0
 unfoldable pub reportOf : Board → View → Query → Report
 reportOf b v q =
     record {
       outcome = outcomeOf b v q;
-      checks = cond (waited b v q) (checksOf (waitIn (q .message)) (q .status)) 0;
-      micros = cond (waited b v q) (microsOf (waitIn (q .message)) (q .status)) 0;
+      checks = cond (waited (kindIn (q .message)) (outcomeOf b v q)) (checksOf (waitIn (q .message)) (q .status)) 0;
+      micros = cond (waited (kindIn (q .message)) (outcomeOf b v q)) (microsOf (waitIn (q .message)) (q .status)) 0;
       written = length (answerOf b v q);
     }
 

@@ -11,12 +11,12 @@ use Rattle.rules.specs.Flags.{keepsVector, newWord}
 use Rattle.rules.specs.Outcome.{View, outcomeOf, carriedOut}
 
 -- host h controls, 0 for none; the other fields are kept
-unfoldable pub heldBy : ℕ → Record → Record
+abbrev pub heldBy : ℕ → Record → Record
 heldBy h r =
     record { controller = h; low = r .low; high = r .high; config = r .config; control = r .control }
 
 -- set config: the word, and the vector unless bit 28 is named
-unfoldable pub withConfig : List ℕ → Record → Record
+abbrev pub withConfig : List ℕ → Record → Record
 withConfig m r =
     record {
       controller = r .controller;
@@ -26,7 +26,7 @@ withConfig m r =
       control = r .control;
     }
 
-unfoldable pub withControl : List ℕ → Record → Record
+abbrev pub withControl : List ℕ → Record → Record
 withControl m r =
     record {
       controller = r .controller;
@@ -37,7 +37,7 @@ withControl m r =
     }
 
 -- request: the sender controls; release: free, other fields kept; handover: the new host controls. Get status and wait change nothing
-unfoldable pub effectOf : Kind → ℕ → List ℕ → Record → Record
+abbrev pub effectOf : Kind → ℕ → List ℕ → Record → Record
 effectOf Request sender m r = heldBy sender r
 effectOf Release sender m r = heldBy 0 r
 effectOf Handover sender m r = heldBy (newHostOf m) r

@@ -15,16 +15,16 @@ abbrev pub keepsVector : ℕ → Bool
 keepsVector clear = hasBit 28 clear
 
 -- the bits that a clear word may name: the mask, and for config bit 28 too
-unfoldable pub clearMaskOf : ℕ → ℕ → ℕ
+abbrev pub clearMaskOf : ℕ → ℕ → ℕ
 clearMaskOf class word = cond (eqb word configWord) (bitOr (maskOf class word) 0x10000000) (maskOf class word)
 
 -- set words and clear words: each bit in the class mask, no bit in both
-unfoldable pub flagsGood : ℕ → ℕ → ℕ → ℕ → Bool
+abbrev pub flagsGood : ℕ → ℕ → ℕ → ℕ → Bool
 flagsGood class word set clear =
     within (maskOf class word) set && within (clearMaskOf class word) clear && eqb (bitAnd set clear) 0
 
 -- an R5 vector has bits 6 to 0 zero
-unfoldable pub vectorGood : ℕ → ℕ → Bool
+abbrev pub vectorGood : ℕ → ℕ → Bool
 vectorGood class low = not (eqb class r5) || eqb (low % 128) 0
 
 -- the old word with the set bits added and the clear bits removed

@@ -27,30 +27,30 @@ pub record View : Type 0 where
 -- ---- the rows' tests
 
 -- R1
-abbrev pub roomTooSmall : Query → Bool
-roomTooSmall q = ltb (q .room) 29
+abbrev pub roomTooSmall : ℕ → Bool
+roomTooSmall room = ltb room 29
 
 -- R2
-abbrev pub lengthWrong : Query → Bool
-lengthWrong q = ltb (length (q .message)) 8 || ltb 60 (length (q .message))
+abbrev pub lengthWrong : List ℕ → Bool
+lengthWrong m = ltb (length m) 8 || ltb 60 (length m)
 
 -- N2: the channel host is not a board host, or 0, or unlike the header's host
-unfoldable pub senderWrong : Board → Query → Bool
-senderWrong b q = not (activeHost b (q .channel)) || not (eqb (q .channel) (hostOf (q .message)))
+unfoldable pub senderWrong : Board → ℕ → List ℕ → Bool
+senderWrong b channel m = not (activeHost b channel) || not (eqb channel (hostOf m))
 
 -- N3
 abbrev pub typeUnknown : Kind → Bool
 typeUnknown k = isKind k Other
 
 -- N4
-abbrev pub tooShort : Query → Bool
-tooShort q = ltb (length (q .message)) (sizeOf (kindIn (q .message)))
+abbrev pub tooShort : Kind → List ℕ → Bool
+tooShort k m = ltb (length m) (sizeOf k)
 
 -- N5: authenticated boot is not offered on this general-purpose part
 abbrev pub notOffered : Kind → Bool
 notOffered k = isKind k AuthBoot
 
--- ---- the right (N7)
+-- ---- the right (N7), by the processor's entry and record
 
 abbrev pub isFree : Record → Bool
 isFree r = eqb (r .controller) 0
@@ -59,69 +59,68 @@ abbrev pub isController : Record → ℕ → Bool
 isController r h = eqb (r .controller) h
 
 -- the processor is free and the sender permitted, or the sender is its recovery master
-unfoldable pub mayRequest : Board → View → ℕ → Bool
-mayRequest b v h = isFree (v .state) && permitted b (v .entry) h || isMaster (v .entry) h
+abbrev pub mayRequest : Board → Entry → Record → ℕ → Bool
+mayRequest b e r h = isFree r && permitted b e h || isMaster e h
 
-unfoldable pub hasRight : Kind → Board → View → ℕ → Bool
-hasRight Request b v h = mayRequest b v h
-hasRight Release b v h = isController (v .state) h
-hasRight Handover b v h = isController (v .state) h
-hasRight SetConfig b v h = isController (v .state) h
-hasRight SetControl b v h = isController (v .state) h
-hasRight AuthBoot b v h = false
-hasRight GetStatus b v h = permitted b (v .entry) h
-hasRight WaitStatus b v h = permitted b (v .entry) h
-hasRight Other b v h = false
+abbrev pub hasRight : Kind → Board → Entry → Record → ℕ → Bool
+hasRight Request b e r h = mayRequest b e r h
+hasRight Release b e r h = isController r h
+hasRight Handover b e r h = isController r h
+hasRight SetConfig b e r h = isController r h
+hasRight SetControl b e r h = isController r h
+hasRight AuthBoot b e r h = false
+hasRight GetStatus b e r h = permitted b e h
+hasRight WaitStatus b e r h = permitted b e h
+hasRight Other b e r h = false
 
--- ---- the operands (N8)
+-- ---- the operands (N8), by the processor's entry and class
 
-unfoldable pub configGood : ℕ → List ℕ → Bool
+abbrev pub configGood : ℕ → List ℕ → Bool
 configGood class m =
     flagsGood class configWord (configSetOf m) (configClearOf m)
     && (keepsVector (configClearOf m) || vectorGood class (vectorLowOf m))
 
-unfoldable pub controlGood : ℕ → List ℕ → Bool
+abbrev pub controlGood : ℕ → List ℕ → Bool
 controlGood class m = flagsGood class controlWord (controlSetOf m) (controlClearOf m)
 
-unfoldable pub operandsGood : Kind → Board → View → List ℕ → Bool
-operandsGood Request b v m = true
-operandsGood Release b v m = true
-operandsGood Handover b v m = permitted b (v .entry) (newHostOf m)
-operandsGood SetConfig b v m = configGood (classOf b (processorOf m)) m
-operandsGood SetControl b v m = controlGood (classOf b (processorOf m)) m
-operandsGood AuthBoot b v m = true
-operandsGood GetStatus b v m = true
-operandsGood WaitStatus b v m = waitGood (waitIn m)
-operandsGood Other b v m = true
+abbrev pub operandsGood : Kind → Board → Entry → ℕ → List ℕ → Bool
+operandsGood Request b e class m = true
+operandsGood Release b e class m = true
+operandsGood Handover b e class m = permitted b e (newHostOf m)
+operandsGood SetConfig b e class m = configGood class m
+operandsGood SetControl b e class m = controlGood class m
+operandsGood AuthBoot b e class m = true
+operandsGood GetStatus b e class m = true
+operandsGood WaitStatus b e class m = waitGood (waitIn m)
+operandsGood Other b e class m = true
 
--- ---- R3 and N9
+-- ---- R3 and N9, by the message and the status words
 
 -- get status with no status word, or wait with fewer words than waits
-unfoldable pub wordsMissing : Kind → Query → Bool
-wordsMissing k q =
-    isKind k GetStatus && eqb (length (q .status)) 0
-    || isKind k WaitStatus && ltb (length (q .status)) (waitIn (q .message) .waits)
+unfoldable pub wordsMissing : Kind → List ℕ → List ℕ → Bool
+wordsMissing k m words =
+    isKind k GetStatus && eqb (length words) 0 || isKind k WaitStatus && ltb (length words) (waitIn m .waits)
 
 -- the wait ran out
-unfoldable pub waitFailed : Kind → Query → Bool
-waitFailed k q = isKind k WaitStatus && ranOut (waitIn (q .message)) (q .status)
+unfoldable pub waitFailed : Kind → List ℕ → List ℕ → Bool
+waitFailed k m words = isKind k WaitStatus && ranOut (waitIn m) words
 
 -- ---- the table
 
 unfoldable pub outcomeTable : Board → View → Query → Kind → List (Line Outcome)
 outcomeTable b v q k =
-    (roomTooSmall q gives R1)
-    ∷ (lengthWrong q gives R2)
+    (roomTooSmall (q .room) gives R1)
+    ∷ (lengthWrong (q .message) gives R2)
     ∷ (not (v .listed) gives N1)
-    ∷ (senderWrong b q gives N2)
+    ∷ (senderWrong b (q .channel) (q .message) gives N2)
     ∷ (typeUnknown k gives N3)
-    ∷ (tooShort q gives N4)
+    ∷ (tooShort k (q .message) gives N4)
     ∷ (notOffered k gives N5)
     ∷ (not (onBoard b (processorOf (q .message))) gives N6)
-    ∷ (not (hasRight k b v (q .channel)) gives N7)
-    ∷ (not (operandsGood k b v (q .message)) gives N8)
-    ∷ (wordsMissing k q gives R3)
-    ∷ (waitFailed k q gives N9)
+    ∷ (not (hasRight k b (v .entry) (v .state) (q .channel)) gives N7)
+    ∷ (not (operandsGood k b (v .entry) (classOf b (processorOf (q .message))) (q .message)) gives N8)
+    ∷ (wordsMissing k (q .message) (q .status) gives R3)
+    ∷ (waitFailed k (q .message) (q .status) gives N9)
     ∷ []
 
 unfoldable pub outcomeOf : Board → View → Query → Outcome

@@ -9,7 +9,7 @@ use lib.Dec.{eqb, leb}
 use Rattle.rules.specs.declared.Wait.{Wait}
 
 -- all of the mask's bits are 1; some bit is 1 if the mask is not zero; all are 0; some is 0 if the mask is not zero
-unfoldable pub wordMatches : Wait → ℕ → Bool
+abbrev pub wordMatches : Wait → ℕ → Bool
 wordMatches w word =
     eqb (bitAnd word (w .allset)) (w .allset)
     && (eqb (w .anyset) 0 || not (eqb (bitAnd word (w .anyset)) 0))
@@ -49,7 +49,7 @@ unfoldable pub microsOf : Wait → List ℕ → ℕ
 microsOf w words = w .before + w .delay * checksOf w words
 
 -- waits and matches at least 1, and at least one mask not zero
-unfoldable pub waitGood : Wait → Bool
+abbrev pub waitGood : Wait → Bool
 waitGood w =
     not (eqb (w .waits) 0)
     && not (eqb (w .matches) 0)

@@ -5,7 +5,6 @@ use Rattle.status.proofs.word_matches.Statement.{statement}
 use Rattle.status.proofs.word_matches.Tie as tie
 
 returns : tie.Need-returns
-unfolding wordMatches
 returns c = refl
 
 pub word-matches-spec : {M : Type 1} → statement M

@@ -1,0 +1,55 @@
+-- The record memory, 20 words of 32 bits: each row has five words, the controller (0 for none), vector low and high, config and control.
+-- With the access memory it holds the rules' state, whatever the content. Assumes nothing.
+use Prim.Native.Nat.{ℕ, _+_, _*_}
+use mathlib.Core.Bool.{cond}
+use mathlib.Core.List.{List}
+use lib.ListN.{length, getD, set}
+use lib.Dec.{ltb}
+use Rattle.rules.specs.declared.Record.{Record}
+use Rattle.rules.specs.Board.{ours, rows}
+use Rattle.rules.specs.Outcome.{View}
+use Rattle.rules.specs.Call.{State}
+use Rattle.access.specs.Memory.{byRow, listedIn, entryAt, entriesIn}
+
+-- the place of a row's first word
+abbrev pub recordPlace : ℕ → ℕ
+recordPlace row = 5 * row
+
+abbrev pub recordAt : List ℕ → ℕ → Record
+recordAt m row =
+    record {
+      controller = getD m (recordPlace row) 0;
+      low = getD m (recordPlace row + 1) 0;
+      high = getD m (recordPlace row + 2) 0;
+      config = getD m (recordPlace row + 3) 0;
+      control = getD m (recordPlace row + 4) 0;
+    }
+
+unfoldable pub recordsIn : List ℕ → List Record
+recordsIn m = byRow (recordAt m) 0 (rows ours)
+
+-- the rules' state, read out of the two lent memories
+unfoldable pub stateIn : List ℕ → List ℕ → State
+stateIn access records =
+    record { listed = listedIn access; entries = entriesIn access; records = recordsIn records }
+
+-- what a message about the processor at a row sees of it
+unfoldable pub viewIn : List ℕ → List ℕ → ℕ → View
+viewIn access records row =
+    record { listed = listedIn access; entry = entryAt access row; state = recordAt records row }
+
+-- the record memory with a record put at a row; a row that is not there is left alone
+unfoldable pub withRecord : List ℕ → ℕ → Record → List ℕ
+withRecord m row r =
+    cond (ltb (recordPlace row + 4) (length m))
+    (set
+    (set
+    (set
+    (set (set m (recordPlace row) (r .controller)) (recordPlace row + 1) (r .low))
+    (recordPlace row + 2)
+    (r .high))
+    (recordPlace row + 3)
+    (r .config))
+    (recordPlace row + 4)
+    (r .control))
+    m

@@ -1,0 +1,17 @@
+// The manager of processor boot: the list call and the message call, over memory that the caller
+// lends. Memory that is all zeros is a fresh manager, and any content is a state.
+mod effect;
+mod memory;
+mod operands;
+mod rights;
+
+use rules::Outcome;
+use rules::Record;
+
+// What a message call decides before it writes anything.
+pub struct Decision {
+    pub outcome: Outcome,
+    pub checks: u32,
+    pub micros: u32,
+    pub next: Record,
+}
