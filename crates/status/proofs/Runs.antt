@@ -1,15 +1,16 @@
 -- One more check of a wait, over plain numbers: how the run goes on, and what the search for its end comes to. Assumes nothing.
-use Prim.Native.Nat.{ℕ, suc, _≤_, _<_, _-_}
+use Prim.Native.Nat.{ℕ, zero, suc, _+_, _≤_, _<_, _-_, min}
 use mathlib.Core.Path.{_≡_, refl, sym, ap, _∙_, subst}
 use mathlib.Core.Bool.{Bool, true, false, cond}
 use mathlib.Core.List.{List}
+use mathlib.Core.Logic.{⊎-elim}
 use native.Mathlib.Omega.{arith}
-use lib.ListN.{getD}
+use lib.ListN.{length, getD}
 use lib.Dec.{leb}
 use borrow.Author.Tests.{le-leb, lt-leb}
 use Rattle.rules.specs.declared.Wait.{Wait}
-use Rattle.rules.specs.Wait.{wordMatches, runAfter, endsRun, firstEnd}
-use Rattle.rules.proofs.Tests.{cond-true, cond-false}
+use Rattle.rules.specs.Wait.{wordMatches, runAfter, endsRun, firstEnd, endingCheck}
+use Rattle.rules.proofs.Tests.{decide, cond-true, cond-false}
 
 module _ (w : Wait) (words : List ℕ) where
   -- the run after one more check
@@ -42,3 +43,16 @@ module _ (w : Wait) (words : List ℕ) where
 pub run-small : (k run r : ℕ) (matching : Bool) → r ≡ cond matching (suc run) 0 → run ≤ k → r ≤ suc k
 run-small k run r true e h = omega arith
 run-small k run r false e h = omega arith
+
+-- ---- a wait makes no more checks than it asks for
+
+first-within : (w : Wait) (words : List ℕ) (n left : ℕ) → firstEnd w words n left ≤ n + left
+unfolding firstEnd
+first-within w words n zero = omega arith
+first-within w words n (suc left) =
+    ⊎-elim (λ e. rw e (omega arith)) (λ e. rw e (let later = first-within w words (suc n) left in omega arith))
+    (decide (endsRun w words (suc n)))
+
+pub ending-within : (w : Wait) (words : List ℕ) → endingCheck w words ≤ w .waits
+unfolding endingCheck
+ending-within w words = let within = first-within w words 0 (min (w .waits) (length words)) in omega arith

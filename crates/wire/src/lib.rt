@@ -8,7 +8,7 @@ ghost use mathlib.Core.List.{_∷_, _++_};
 ghost use lib.ListN.{length};
 ghost use lib.Dec.{leb};
 ghost use Rattle.rules.specs.Bytes.{byteAt, u16At, u32At, u32Bytes};
-ghost use Rattle.rules.specs.Message.{kindOf, sizeOf, answerAsked, waitIn};
+ghost use Rattle.rules.specs.Message.{kindOf, typeNumber, sizeOf, answerAsked, waitIn};
 ghost use Rattle.rules.specs.Answer.{headerWith, ack, statusBytes, bufferAfter};
 use rules::Kind;
 use rules::Record;
@@ -77,6 +77,23 @@ pub fn kind_of(number: u16) -> Kind
         0xC400 => Kind::GetStatus,
         0xC401 => Kind::WaitStatus,
         _ => Kind::Other,
+    }
+}
+
+// The number of a kind's type; 0, which is no type, for all others.
+pub fn type_number(kind: Kind) -> u16
+    ensures { λ r. ⌜ r ≡ typeNumber kind ⌝ }
+{
+    match kind {
+        Kind::Request => 0xC000,
+        Kind::Release => 0xC001,
+        Kind::Handover => 0xC005,
+        Kind::SetConfig => 0xC100,
+        Kind::SetControl => 0xC101,
+        Kind::AuthBoot => 0xC120,
+        Kind::GetStatus => 0xC400,
+        Kind::WaitStatus => 0xC401,
+        Kind::Other => 0,
     }
 }
 

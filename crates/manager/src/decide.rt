@@ -1,0 +1,179 @@
+// The outcome table of document 01, row by row, and what the call comes to. Nothing is written here:
+// a decision has the outcome, what a wait reports, and the record that the call leaves.
+ghost use mathlib.Core.Path.{_≡_};
+ghost use mathlib.Core.Bool.{cond};
+ghost use Prim.Native.Nat.{_+_, _*_};
+ghost use Rattle.rules.specs.declared.Outcome.the-variants.{N9, Ok};
+ghost use Rattle.rules.specs.Board.{ours, rowOf};
+ghost use Rattle.rules.specs.Message.{processorOf};
+ghost use Rattle.rules.specs.Wait.{ranOut, checksOf, microsOf};
+ghost use Rattle.rules.specs.Outcome.{senderWrong, wordsMissing};
+ghost use Rattle.manager.specs.Decision.{viewWith, asked, refusedWith, decisionFrom, ruleTable, kindTable, decisionOf};
+use crate::Decision;
+use crate::effect::effect;
+use crate::operands::operands_good;
+use crate::rights::has_right;
+use access::is_listed;
+use board::ROWS;
+use board::is_active;
+use rules::Kind;
+use rules::Outcome;
+use rules::Record;
+use rules::Wait;
+use status::ending_check;
+use wire::byte_at;
+use wire::kind_of;
+use wire::size_of;
+use wire::type_number;
+use wire::u16_at;
+use wire::wait_in;
+
+// A refusal: it reports no checks and leaves the record as it was.
+fn refused(outcome: Outcome, state: Record) -> Decision
+    ensures { λ r. ⌜ r ≡ refusedWith outcome state ⌝ }
+{
+    Decision {
+        outcome,
+        checks: 0,
+        micros: 0,
+        next: state,
+    }
+}
+
+// N2: whether the channel host is not one that sends, or unlike the header's host.
+fn sender_wrong(channel: u8, message: &[u8]) -> bool
+    ensures { λ r. ⌜ r ≡ senderWrong ours channel (now (message .entry)) ⌝ }
+{
+    !is_active(channel as u16) | (channel != byte_at(message, 2))
+}
+
+// R3: whether status words are missing, for get status the first and for a wait as many as `waits`.
+fn words_missing(kind: Kind, message: &[u8], status: &[u32]) -> bool
+    ensures { λ r. ⌜ r ≡ wordsMissing kind (now (message .entry)) (now (status .entry)) ⌝ }
+{
+    let number = type_number(kind);
+    let waits = byte_at(message, 9) as usize;
+    ((number == 0xC400) & (status.len() == 0)) | ((number == 0xC401) & (status.len() < waits))
+}
+
+// The microseconds of a wait: at most 65,280.
+fn micros(before: u8, delay: u8, checks: u8) -> u32
+    ensures { λ r. ⌜ r ≡ before + delay * checks ⌝ }
+{
+    before as u32 + delay as u32 * checks as u32
+}
+
+// What a wait comes to, OK or N9, with the checks that it really took.
+fn waited(w: Wait, status: &[u32], state: Record) -> Decision
+    ensures { λ r. ⌜ r ≡ record { outcome = cond (ranOut w (now (status .entry))) N9 Ok; checks = checksOf w (now (status .entry)); micros = microsOf w (now (status .entry)); next = state } ⌝ }
+{
+    let ended = ending_check(w, status);
+    if ended == 0 {
+        return Decision {
+            outcome: Outcome::N9,
+            checks: w.waits as u32,
+            micros: micros(w.before, w.delay, w.waits),
+            next: state,
+        };
+    }
+    Decision {
+        outcome: Outcome::Ok,
+        checks: ended as u32,
+        micros: micros(w.before, w.delay, ended as u8),
+        next: state,
+    }
+}
+
+// The rows from N7 on: right, operands, status words, and for a wait its checks.
+fn by_rule(
+    kind: Kind,
+    access: &[u16],
+    row: u8,
+    state: Record,
+    channel: u8,
+    message: &[u8],
+    status: &[u32],
+    room: usize,
+) -> Decision
+    requires { ⌜ row ≡ rowOf ours (processorOf (now message)) ⌝ }
+    ensures { λ r. ⌜ r ≡ decisionFrom (ruleTable (viewWith (now (access .entry)) row state) (asked channel (now (message .entry)) (now (status .entry)) room) kind) kind (viewWith (now (access .entry)) row state) (asked channel (now (message .entry)) (now (status .entry)) room) ⌝ }
+{
+    if !has_right(kind, access, row, state, channel) {
+        return refused(Outcome::N7, state);
+    }
+    if !operands_good(kind, access, row, message) {
+        return refused(Outcome::N8, state);
+    }
+    if words_missing(kind, message, status) {
+        return refused(Outcome::R3, state);
+    }
+    if type_number(kind) == 0xC401 {
+        return waited(wait_in(message), status, state);
+    }
+    Decision {
+        outcome: Outcome::Ok,
+        checks: 0,
+        micros: 0,
+        next: effect(kind, channel, message, state),
+    }
+}
+
+// The rows from N3 on: the type, its size, whether it is offered, the processor.
+fn by_kind(
+    kind: Kind,
+    access: &[u16],
+    row: u8,
+    state: Record,
+    channel: u8,
+    message: &[u8],
+    status: &[u32],
+    room: usize,
+) -> Decision
+    requires { ⌜ row ≡ rowOf ours (processorOf (now message)) ⌝ }
+    ensures { λ r. ⌜ r ≡ decisionFrom (kindTable (viewWith (now (access .entry)) row state) (asked channel (now (message .entry)) (now (status .entry)) room) kind) kind (viewWith (now (access .entry)) row state) (asked channel (now (message .entry)) (now (status .entry)) room) ⌝ }
+{
+    let number = type_number(kind);
+    if number == 0 {
+        return refused(Outcome::N3, state);
+    }
+    if message.len() < size_of(kind) {
+        return refused(Outcome::N4, state);
+    }
+    if number == 0xC120 {
+        return refused(Outcome::N5, state);
+    }
+    if ROWS <= row {
+        return refused(Outcome::N6, state);
+    }
+    by_rule(kind, access, row, state, channel, message, status, room)
+}
+
+// What a message call comes to, by the whole table.
+pub fn decide(
+    access: &[u16],
+    row: u8,
+    state: Record,
+    channel: u8,
+    message: &[u8],
+    status: &[u32],
+    room: usize,
+) -> Decision
+    requires { ⌜ row ≡ rowOf ours (processorOf (now message)) ⌝ }
+    ensures { λ r. ⌜ r ≡ decisionOf (viewWith (now (access .entry)) row state) (asked channel (now (message .entry)) (now (status .entry)) room) ⌝ }
+{
+    let length = message.len();
+    if room < 29 {
+        return refused(Outcome::R1, state);
+    }
+    if (length < 8) | (60 < length) {
+        return refused(Outcome::R2, state);
+    }
+    if !is_listed(access) {
+        return refused(Outcome::N1, state);
+    }
+    if sender_wrong(channel, message) {
+        return refused(Outcome::N2, state);
+    }
+    let kind = kind_of(u16_at(message, 0));
+    by_kind(kind, access, row, state, channel, message, status, room)
+}
