@@ -24,7 +24,7 @@ use Rattle.manager.specs.Decision.{refusedWith, decisionFrom, ruleTable,
 
 -- no wait ends in a refusal that carries no checks
 not-waited : (k : Kind) (o : Outcome) → carriedOut o ≡ false → eqb (outcomeNumber o) 9 ≡ false → waited k o ≡ false
-unfolding waited outcomeNumber
+unfolding waited
 not-waited k o refuses early = rw (refuses, early) (and-false (isKind k WaitStatus))
 
 module _ (k : Kind) (v : View) (q : Query) (t : Bool) (o : Outcome) (below : List (Line Outcome)) where
@@ -41,7 +41,7 @@ module _ (k : Kind) (v : View) (q : Query) (t : Bool) (o : Outcome) (below : Lis
 pub plain-decides : (k : Kind) (v : View) (q : Query) → isKind k WaitStatus ≡ false
     → decisionFrom ((waitFailed k (q .message) (q .status) gives N9) ∷ []) k v q
     ≡ record { outcome = Ok; checks = 0; micros = 0; next = effectOf k (q .channel) (q .message) (v .state) }
-unfolding decisionFrom firstOf waitFailed waited carriedOut outcomeNumber
+unfolding decisionFrom firstOf waitFailed waited carriedOut
 plain-decides k v q plain = rw plain
 
 -- and a wait is OK or N9, with its checks
@@ -53,7 +53,7 @@ wait-decides-so : (v : View) (q : Query) (out : Bool) → ranOut (waitIn (q .mes
       micros = microsOf (waitIn (q .message)) (q .status);
       next = v .state;
     }
-unfolding decisionFrom firstOf waitFailed waited carriedOut outcomeNumber
+unfolding decisionFrom firstOf waitFailed waited carriedOut
 wait-decides-so v q true e = rw e
 wait-decides-so v q false e = rw e
 
@@ -80,18 +80,18 @@ wait-decides Other v q e = clash {x = false} e refl
 module _ (k : Kind) (v : View) (q : Query) where
   pub rule-N7 : hasRight k ours (v .entry) (v .state) (q .channel) ≡ false
       → decisionFrom (ruleTable v q k) k v q ≡ refusedWith N7 (v .state)
-  unfolding ruleTable carriedOut outcomeNumber
+  unfolding ruleTable carriedOut
   rule-N7 lacks = row-refuses k v q _ _ _ (rw lacks) refl refl
 
   module _ (right : hasRight k ours (v .entry) (v .state) (q .channel) ≡ true) where
     pub rule-N8 : operandsGood k ours (v .entry) (classOf ours (processorOf (q .message))) (q .message) ≡ false
         → decisionFrom (ruleTable v q k) k v q ≡ refusedWith N8 (v .state)
-    unfolding ruleTable carriedOut outcomeNumber
+    unfolding ruleTable carriedOut
     rule-N8 wrong = row-passes k v q _ _ _ (rw right) ∙ row-refuses k v q _ _ _ (rw wrong) refl refl
 
     module _ (good : operandsGood k ours (v .entry) (classOf ours (processorOf (q .message))) (q .message) ≡ true) where
       pub rule-R3 : wordsMissing k (q .message) (q .status) ≡ true → decisionFrom (ruleTable v q k) k v q ≡ refusedWith R3 (v .state)
-      unfolding ruleTable carriedOut outcomeNumber
+      unfolding ruleTable carriedOut
       rule-R3 missing =
           row-passes k v q _ _ _ (rw right) ∙ row-passes k v q _ _ _ (rw good) ∙ row-refuses k v q _ _ _ missing refl refl
 
@@ -105,22 +105,22 @@ module _ (k : Kind) (v : View) (q : Query) where
 
 module _ (k : Kind) (v : View) (q : Query) where
   pub kind-N3 : isKind k Other ≡ true → decisionFrom (kindTable v q k) k v q ≡ refusedWith N3 (v .state)
-  unfolding kindTable carriedOut outcomeNumber
+  unfolding kindTable carriedOut
   kind-N3 unknown = row-refuses k v q _ _ _ unknown refl refl
 
   module _ (known : isKind k Other ≡ false) where
     pub kind-N4 : tooShort k (q .message) ≡ true → decisionFrom (kindTable v q k) k v q ≡ refusedWith N4 (v .state)
-    unfolding kindTable carriedOut outcomeNumber
+    unfolding kindTable carriedOut
     kind-N4 short = row-passes k v q _ _ _ known ∙ row-refuses k v q _ _ _ short refl refl
 
     module _ (whole : tooShort k (q .message) ≡ false) where
       pub kind-N5 : isKind k AuthBoot ≡ true → decisionFrom (kindTable v q k) k v q ≡ refusedWith N5 (v .state)
-      unfolding kindTable carriedOut outcomeNumber
+      unfolding kindTable carriedOut
       kind-N5 auth = row-passes k v q _ _ _ known ∙ row-passes k v q _ _ _ whole ∙ row-refuses k v q _ _ _ auth refl refl
 
       module _ (offered : isKind k AuthBoot ≡ false) where
         pub kind-N6 : onBoard ours (processorOf (q .message)) ≡ false → decisionFrom (kindTable v q k) k v q ≡ refusedWith N6 (v .state)
-        unfolding kindTable carriedOut outcomeNumber
+        unfolding kindTable carriedOut
         kind-N6 off =
             row-passes k v q _ _ _ known
             ∙ row-passes k v q _ _ _ whole
@@ -140,23 +140,23 @@ module _ (k : Kind) (v : View) (q : Query) where
 
 module _ (v : View) (q : Query) where
   pub call-R1 : roomTooSmall (q .room) ≡ true → decisionOf v q ≡ refusedWith R1 (v .state)
-  unfolding decisionOf outcomeTable carriedOut outcomeNumber
+  unfolding decisionOf outcomeTable carriedOut
   call-R1 small = row-refuses _ v q _ _ _ small refl refl
 
   module _ (room : roomTooSmall (q .room) ≡ false) where
     pub call-R2 : lengthWrong (q .message) ≡ true → decisionOf v q ≡ refusedWith R2 (v .state)
-    unfolding decisionOf outcomeTable carriedOut outcomeNumber
+    unfolding decisionOf outcomeTable carriedOut
     call-R2 wrong = row-passes _ v q _ _ _ room ∙ row-refuses _ v q _ _ _ wrong refl refl
 
     module _ (right : lengthWrong (q .message) ≡ false) where
       pub call-N1 : v .listed ≡ false → decisionOf v q ≡ refusedWith N1 (v .state)
-      unfolding decisionOf outcomeTable carriedOut outcomeNumber
+      unfolding decisionOf outcomeTable carriedOut
       call-N1 none =
           row-passes _ v q _ _ _ room ∙ row-passes _ v q _ _ _ right ∙ row-refuses _ v q _ _ _ (ap not none) refl refl
 
       module _ (listed : v .listed ≡ true) where
         pub call-N2 : senderWrong ours (q .channel) (q .message) ≡ true → decisionOf v q ≡ refusedWith N2 (v .state)
-        unfolding decisionOf outcomeTable carriedOut outcomeNumber
+        unfolding decisionOf outcomeTable carriedOut
         call-N2 wrong =
             row-passes _ v q _ _ _ room
             ∙ row-passes _ v q _ _ _ right

@@ -18,7 +18,7 @@ abbrev heaterAndTiming : List ℕ
 heaterAndTiming = 1 ∷ 2 ∷ []
 
 bench-loaded : Loaded ours benchList heaterAndTiming
-unfolding firstOf anyOf allOf ours boardHost activeHost placeIn rows rowOf onBoard noEntry partsFrom namedIn entryTable entriesTable listTable verdictOf verdictNumber entryIn withPart withParts noEntries entriesOf hasEntry fresh entryOf accepted afterList start
+unfolding firstOf anyOf allOf ours boardHost activeHost placeIn rows rowOf onBoard noEntry partsFrom namedIn entryTable entriesTable listTable verdictOf entryIn withPart withParts noEntries entriesOf hasEntry fresh entryOf accepted afterList start
 bench-loaded = record { taken = refl; named = refl }
 
 pub on-the-bench : Noninterference ours benchList heaterAndTiming
@@ -34,7 +34,7 @@ disturbed =
     request 12 ∷ request 3 ∷ setConfig 12 0x41C00100 0 ∷ list benchList ∷ setConfig 3 0x41C00080 0 ∷ handover 12 12 ∷ handover 3 5 ∷ request 12 ∷ []
 
 same-picks : picks ours benchList heaterAndTiming quiet ≡ picks ours benchList heaterAndTiming disturbed
-unfolding firstOf anyOf ours boardHost activeHost placeIn rows rowOf onBoard noEntry partsFrom namedIn entryTable entriesTable listTable verdictOf verdictNumber entryIn withPart withParts noEntries entriesOf hasEntry isMaster isSecondary permitted kindOf namesProcessor isAbout fresh entryOf accepted afterList start insider aboutChosen picked picks
+unfolding firstOf anyOf ours boardHost activeHost placeIn rows rowOf onBoard noEntry partsFrom namedIn entryTable entriesTable listTable verdictOf entryIn withPart withParts noEntries entriesOf hasEntry isMaster isSecondary permitted kindOf namesProcessor isAbout fresh entryOf accepted afterList start insider aboutChosen picked picks
 same-picks = refl
 
 -- so host 12 changes none of the answers

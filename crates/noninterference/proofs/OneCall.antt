@@ -42,7 +42,7 @@ free-at (suc n) zero = refl
 free-at (suc n) (suc i) = free-at n i
 
 again : (b : Board) (offered : List ℕ) → accepted (verdictOf b true offered) ≡ false
-unfolding verdictOf listTable firstOf accepted verdictNumber
+unfolding verdictOf listTable firstOf accepted
 again b offered = refl
 
 -- once a list was accepted, a list call changes nothing

@@ -9,7 +9,7 @@ use Rattle.rules.specs.Flags.{clearMaskOf, flagsGood, vectorGood}
 use Rattle.rules.specs.Wait.{wordMatches, runAfter, endsRun, firstEnd, endingCheck, ranOut, checksOf, microsOf, waitGood}
 use Rattle.rules.specs.Outcome.{senderWrong, mayRequest, hasRight, configGood, controlGood, operandsGood, wordsMissing, waitFailed, outcomeTable, outcomeOf, outcomeNumber, carriedOut, silent}
 use Rattle.rules.specs.Effect.{heldBy, withConfig, withControl, effectOf, recordAfter}
-use Rattle.rules.specs.Answer.{ackBytes, bytesFor, answerOf, waited, reportOf}
+use Rattle.rules.specs.Answer.{ackBytes, bytesFor, answerBytes, answerOf, waited, reportOf}
 use Rattle.rules.specs.Call.{freeRecord, fresh, entryOf, recordOf, viewOf, accepted, afterList, afterMessage}
 use Rattle.rules.specs.Sequence.{next, run, answerTo}
 use Rattle.rules.specs.Bench.{Case, Given, givenIn, answerGiven, starred}
@@ -17,5 +17,5 @@ use Rattle.rules.specs.Bench.{Case, Given, givenIn, answerGiven, starred
 -- each row gives what it says
 pub starred-hold :
     map (λ (c : Case). givenIn (run ours (fresh ours) (c .earlier)) (c .call)) starred ≡ map (λ (c : Case). c .gives) starred
-unfolding firstOf anyOf ours boardHost activeHost placeIn rows rowOf onBoard classAt classOf maskOf noEntry partsFrom namedIn entryTable entriesTable listTable verdictOf verdictNumber entryIn withPart withParts noEntries entriesOf hasEntry isMaster isSecondary permitted answerAsked kindOf waitIn runAfter endsRun firstEnd endingCheck ranOut checksOf microsOf senderWrong wordsMissing waitFailed outcomeTable outcomeOf outcomeNumber carriedOut silent recordAfter ackBytes bytesFor answerOf waited reportOf freeRecord fresh entryOf recordOf viewOf accepted afterList afterMessage next run answerTo givenIn answerGiven starred
+unfolding firstOf anyOf ours boardHost activeHost placeIn rows rowOf onBoard classAt classOf maskOf noEntry partsFrom namedIn entryTable entriesTable listTable verdictOf entryIn withPart withParts noEntries entriesOf hasEntry isMaster isSecondary permitted answerAsked kindOf waitIn runAfter endsRun firstEnd endingCheck ranOut checksOf microsOf senderWrong wordsMissing waitFailed outcomeTable outcomeOf carriedOut silent recordAfter ackBytes bytesFor answerBytes answerOf waited reportOf freeRecord fresh entryOf recordOf viewOf accepted afterList afterMessage next run answerTo givenIn answerGiven starred
 starred-hold = refl

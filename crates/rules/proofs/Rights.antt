@@ -49,7 +49,7 @@ pub record Allowed (b : Board) (v : View) (q : Query) (k : Kind) : Type 0 where
 
 module _ (b : Board) (v : View) (q : Query) where
   pub allowed : carriedOut (outcomeOf b v q) ≡ true → Allowed b v q (kindIn (q .message))
-  unfolding outcomeOf outcomeTable carriedOut outcomeNumber
+  unfolding outcomeOf outcomeTable carriedOut
   allowed ok =
       let r1 = line-passed _ _ _ refl ok in
       let r2 = line-passed _ _ _ refl r1 in

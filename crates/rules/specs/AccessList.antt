@@ -84,7 +84,7 @@ unfoldable pub verdictOf : Board → Bool → List ℕ → Verdict
 verdictOf b listed list = firstOf Accepted (listTable b listed list)
 
 -- document 01's number of a verdict: 0 for an accepted list, and k for Ak
-unfoldable pub verdictNumber : Verdict → ℕ
+abbrev pub verdictNumber : Verdict → ℕ
 verdictNumber Accepted = 0
 verdictNumber A1 = 1
 verdictNumber A2 = 2

@@ -41,10 +41,13 @@ ackBytes k m r status = cond (isKind k GetStatus) (ack m ++ statusBytes m r stat
 unfoldable pub bytesFor : Outcome → List ℕ → Record → ℕ → List ℕ
 bytesFor o m r status = cond (carriedOut o) (ackBytes (kindIn m) m r status) (cond (silent o) [] (nak m))
 
--- NAK and ACK are written only when asked for. The first status word is the status now
+-- NAK and ACK are written only when asked for
+unfoldable pub answerBytes : Outcome → List ℕ → Record → ℕ → List ℕ
+answerBytes o m r status = cond (answerAsked m) (bytesFor o m r status) []
+
+-- the bytes that a call writes. The first status word is the status now
 unfoldable pub answerOf : Board → View → Query → List ℕ
-answerOf b v q =
-    cond (answerAsked (q .message)) (bytesFor (outcomeOf b v q) (q .message) (v .state) (getD (q .status) 0 0)) []
+answerOf b v q = answerBytes (outcomeOf b v q) (q .message) (v .state) (getD (q .status) 0 0)
 
 -- the outcome carries the checks made and the microseconds where a wait ended, OK or N9
 unfoldable pub waited : Kind → Outcome → Bool

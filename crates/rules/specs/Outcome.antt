@@ -127,7 +127,7 @@ unfoldable pub outcomeOf : Board → View → Query → Outcome
 outcomeOf b v q = firstOf Ok (outcomeTable b v q (kindIn (q .message)))
 
 -- document 01's number of an outcome: 0 for OK, k for Nk, 100 + k for Rk
-unfoldable pub outcomeNumber : Outcome → ℕ
+abbrev pub outcomeNumber : Outcome → ℕ
 outcomeNumber Ok = 0
 outcomeNumber N1 = 1
 outcomeNumber N2 = 2
