@@ -1,14 +1,14 @@
 -- Who is permitted by the words of a row. Assumes nothing.
 use Prim.Native.Nat.{ℕ, _+_, _*_}
-use mathlib.Core.Path.{_≡_, refl, sym, ap, _∙_}
-use mathlib.Core.Bool.{Bool, true, false, not, cond, _&&_, _||_, or-assoc, or-false}
+use mathlib.Core.Path.{_≡_}
+use mathlib.Core.Bool.{false, not, _&&_, _||_, or-assoc, or-false}
 use mathlib.Core.List.{List}
 use lib.ListN.{getD}
 use lib.Dec.{eqb}
 use Rattle.rules.specs.Table.{anyOf}
 use Rattle.rules.specs.Board.{ours, activeHost}
 use Rattle.rules.specs.AccessList.{hasEntry, isMaster, isSecondary, permitted}
-use Rattle.access.specs.Memory.{entryPlace, entryAt}
+use Rattle.access.specs.Memory.{entryAt}
 
 -- without an entry
 pub open-row : (m : List ℕ) (row h : ℕ) → getD m (1 + 4 * row) 0 ≡ 0 → permitted ours (entryAt m row) h ≡ activeHost ours h

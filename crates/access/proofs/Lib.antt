@@ -1,2 +1,4 @@
 -- What the proofs of this crate share.
 pub mod Entries
+pub mod Memory
+pub mod Verdicts

@@ -1,2 +1,3 @@
--- What the lent access memory holds.
+-- What the lent access memory holds, and the steps of the judge of a list.
+pub mod Judged
 pub mod Memory

@@ -1,3 +1,5 @@
 -- What the proofs of this crate share.
 pub mod Decisions
 pub mod Answers
+pub mod LentMemory
+pub mod Calls

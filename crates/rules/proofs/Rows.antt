@@ -1,5 +1,5 @@
 -- Rows: two processors of which one is on the board share a row only if they are one. For any board. Assumes nothing.
-use Prim.Native.Nat.{ℕ, suc, pred, _<_}
+use Prim.Native.Nat.{ℕ, suc, pred, _<_, _≤_}
 use mathlib.Core.Path.{_≡_, refl, sym, _∙_, subst, ap}
 use mathlib.Core.Bool.{Bool, true, false, cond}
 use mathlib.Core.List.{List, [], _∷_}
@@ -43,3 +43,14 @@ place-one (x ∷ xs) p r e h =
 pub row-one : (b : Board) (p r : ℕ) → rowOf b p ≡ rowOf b r → onBoard b r ≡ true → p ≡ r
 unfolding rowOf rows onBoard
 row-one b p r e h = place-one (b .processors) p r e (ltb-true (placeIn (b .processors) r) (length (b .processors)) h)
+
+-- a row is at most the number of rows, which stands for no row
+place-within : (xs : List Processor) (p : ℕ) → placeIn xs p ≤ length xs
+unfolding placeIn
+place-within [] p = omega arith
+place-within (x ∷ xs) p =
+    ⊎-elim (λ t. rw t (omega arith)) (λ f. rw f (let h = place-within xs p in omega arith)) (decide (eqb p (x .number)))
+
+pub row-within : (b : Board) (p : ℕ) → rowOf b p ≤ rows b
+unfolding rowOf rows
+row-within b p = place-within (b .processors) p
