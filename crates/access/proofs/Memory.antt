@@ -216,12 +216,3 @@ pub after-entries : (m list : List ℕ) (records : List Record)
 unfolding accessAfter afterList
 after-entries m list records =
     both-ends (accepted (verdictOf ours (listedIn m) list)) entriesIn (λ (s : State). s .entries) (words-read list) refl
-
--- zeros are a fresh manager
-pub fresh-listed : listedIn (replicate 17 0) ≡ false
-unfolding listedIn
-fresh-listed = refl
-
-pub fresh-entries : entriesIn (replicate 17 0) ≡ noEntries ours
-unfolding entriesIn entryAt byRow noEntries noEntry rows ours
-fresh-entries = refl

@@ -1,4 +1,4 @@
--- The message call over plain lists: what the steps of `message` leave is what the rules give. Assumes nothing.
+-- The two calls over plain lists: what their steps leave is what the rules give. Assumes nothing.
 use Prim.Native.Nat.{ℕ, _≤_, _<_}
 use mathlib.Core.Path.{_≡_, refl, sym, ap, _∙_, subst}
 use mathlib.Core.Bool.{Bool, true, false, cond}
@@ -21,10 +21,12 @@ use Rattle.rules.specs.Message.{Query, answerAsked, isKind, kindIn, processorOf
 use Rattle.rules.specs.Outcome.{View, outcomeOf, carriedOut, silent}
 use Rattle.rules.specs.Effect.{recordAfter}
 use Rattle.rules.specs.Answer.{ackBytes, bytesFor, answerBytes, answerOf, reportOf, bufferAfter}
-use Rattle.rules.specs.Call.{viewOf, afterMessage}
-use Rattle.rules.specs.Sequence.{queryOf, next, answerTo}
+use Rattle.rules.specs.AccessList.{verdictOf}
+use Rattle.rules.specs.Call.{State, viewOf, accepted, afterList, afterMessage}
+use Rattle.rules.specs.Sequence.{list, queryOf, next, answerTo}
 use Rattle.rules.proofs.Tests.{decide}
-use Rattle.access.specs.Memory.{byRow}
+use Rattle.access.specs.Memory.{byRow, listedIn, entriesIn, accessAfter}
+use Rattle.access.proofs.Memory.{after-listed, after-entries}
 use Rattle.manager.specs.declared.Decision.{Decision}
 use Rattle.manager.specs.Memory.{recordAt, recordsIn, stateIn, viewIn, withRecord}
 use Rattle.manager.specs.Decision.{viewWith, asked, decisionFrom, decisionOf, fitted}
@@ -46,6 +48,11 @@ bytes-short o m r status = go (answerAsked m) (carriedOut o) (silent o) (isKind 
     go true true s false ea ec es eg = rw (ea, ec, eg) (lit≤ tt)
     go true false true g ea ec es eg = rw (ea, ec, es) (lit≤ tt)
     go true false false g ea ec es eg = rw (ea, ec, es) (lit≤ tt)
+
+-- so no call writes more
+pub written-short : (s : State) (q : Query) → answerTo ours s q .report .written ≤ 29
+unfolding answerTo reportOf answerOf
+written-short s q = bytes-short _ (q .message) _ _
 
 -- R1 has no answer
 no-answer : (m : List ℕ) (r : Record) (status : ℕ) → answerBytes R1 m r status ≡ []
@@ -127,3 +134,22 @@ module _ (a m : List ℕ) (channel : ℕ) (bytes words held : List ℕ) (la : le
             ∙ ap (λ (l : List ℕ). bufferAfter l held) fits
             ∙ ap (λ (x : View). bufferAfter (answerOf ours x q) held) (sym sees);
       }
+
+-- ---- the list call
+
+list-keeps-records : (a bytes : List ℕ) (records : List Record)
+    → afterList ours (record { listed = listedIn a; entries = entriesIn a; records = records }) bytes .records ≡ records
+unfolding afterList
+list-keeps-records a bytes records =
+    ⊎-elim (λ t. rw t) (λ f. rw f) (decide (accepted (verdictOf ours (listedIn a) bytes)))
+
+-- an access memory after the list call, read with any records, is the rules' next state
+pub list-state : (a bytes records : List ℕ) → stateIn (accessAfter a bytes) records ≡ next ours (stateIn a records) (list bytes)
+unfolding stateIn next
+list-state a bytes records =
+    λ t.
+    record {
+      listed = after-listed a bytes (recordsIn records) t;
+      entries = after-entries a bytes (recordsIn records) t;
+      records = sym (list-keeps-records a bytes (recordsIn records)) t;
+    }

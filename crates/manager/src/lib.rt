@@ -7,7 +7,7 @@ mod memory;
 mod operands;
 mod rights;
 
-ghost use Rattle.manager.specs.Calls.{MessageCall};
+ghost use Rattle.manager.specs.Calls.{ListCall, MessageCall};
 use answer::status_now;
 use answer::write_answer;
 use board::row_of;
@@ -17,6 +17,7 @@ use memory::store;
 use rules::Outcome;
 use rules::Record;
 use rules::Report;
+use rules::Verdict;
 use wire::byte_at;
 
 // What a message call decides before it writes anything.
@@ -25,6 +26,14 @@ pub struct Decision {
     pub checks: u32,
     pub micros: u32,
     pub next: Record,
+}
+
+// Offers an access list. The first good one is taken and is in force from then on; a refused one
+// changes nothing.
+pub fn offer_list(access: &mut [u16; 17], list: &[u8]) -> Verdict
+    ensures { λ r. ⌜ ListCall (now (access .entry)) (now (list .entry)) (now (access .exit)) r ⌝ }
+{
+    access::offer_list(access, list)
 }
 
 // Carries out one message from the channel of host `channel`. The access memory is only read. The

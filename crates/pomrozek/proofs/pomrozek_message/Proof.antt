@@ -1,0 +1,72 @@
+-- `pomrozek_message` meets its contract: the message call, with the outcome's number and the rest of the report as words. Assumes
+-- nothing.
+use Prim.Native.Nat.{ℕ, _≤_}
+use mathlib.Core.Path.{_≡_, refl, sym, ap, _∙_, subst⁻¹}
+use mathlib.Core.List.{List, [], _∷_}
+use native.Mathlib.Omega.{arith}
+use lib.ListN.{length, set, length-set}
+use denote.Ref.{now}
+use Rattle.rules.specs.declared.Report.{Report}
+use Rattle.rules.specs.Outcome.{outcomeNumber}
+use Rattle.manager.proofs.Calls.{written-short}
+use Rattle.pomrozek.specs.Exported.{reportWords}
+use borrow.Author.Needs.{needs}
+use Rattle.pomrozek.proofs.pomrozek_message.Statement.{statement}
+use Rattle.pomrozek.proofs.pomrozek_message.Tie as tie
+
+-- three words stored in a list of three
+three : (l : List ℕ) (a b d : ℕ) → length l ≡ 3 → set (set (set l 0 a) 1 b) 2 d ≡ a ∷ b ∷ d ∷ []
+three [] a b d n = absurd (let z : _≡_ {A = ℕ} 0 3 = n in omega arith)
+three (x ∷ []) a b d n = absurd (let z : _≡_ {A = ℕ} 1 3 = n in omega arith)
+three (x ∷ y ∷ []) a b d n = absurd (let z : _≡_ {A = ℕ} 2 3 = n in omega arith)
+three (x ∷ y ∷ z ∷ []) a b d n = refl
+three (x ∷ y ∷ z ∷ w ∷ l) a b d n = absurd (let q : _≡_ {A = ℕ} (length (x ∷ y ∷ z ∷ w ∷ l)) 3 = n in omega arith)
+
+message-requires : tie.Need-message-requires
+message-requires c κs = search needs
+
+slice-write-words : tie.Need-slice-write-words
+slice-write-words c = search needs
+
+slice-write-words-2 : tie.Need-slice-write-words-2
+slice-write-words-2 c = simp length-set (omega arith)
+
+narrow-requires : tie.Need-narrow-requires
+narrow-requires c κs =
+    subst⁻¹ (λ (r : Report). r .written ≤ 29) (c .before .before .before .message .ensures .report) (written-short _ _)
+
+slice-write-words-3 : tie.Need-slice-write-words-3
+slice-write-words-3 c = simp length-set (omega arith)
+
+outcome-number-requires : tie.Need-outcome-number-requires
+outcome-number-requires c κs = search needs
+
+same-length : tie.Need-same-length
+same-length c = search needs
+
+returns : tie.Need-returns
+returns c =
+    let a = c .before .before .before .before .before .before .before .before .before .before .before .args in
+    let told = c .before .before .before .before .before .message .ensures in
+    record {
+      outcome = c .outcome-number .ensures ∙ ap (λ (r : Report). outcomeNumber (r .outcome)) (told .report);
+      report =
+          ap (λ (n : ℕ). set (set (set (now (a .report)) 0 (c .before .before .before .before .before .message .result .checks)) 1 (c .before .before .before .before .before .message .result .micros)) 2 n) (c .before .narrow .ensures)
+          ∙ three (now (a .report)) _ _ _ (search needs)
+          ∙ ap reportWords (told .report);
+      records = told .records;
+      buffer = told .buffer;
+    }
+
+pub pomrozek-message-spec : {M : Type 1} → statement M
+pomrozek-message-spec =
+    tie.close
+    (tie.spec
+    message-requires
+    slice-write-words
+    slice-write-words-2
+    narrow-requires
+    slice-write-words-3
+    outcome-number-requires
+    same-length
+    returns)

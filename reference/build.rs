@@ -1,0 +1,16 @@
+//! Tells the linker where the first implementation's static library is, when it is asked for.
+
+use std::env;
+
+fn main() {
+    println!("cargo:rerun-if-changed=build.rs");
+    println!("cargo:rerun-if-env-changed=POMROZEK_STATICLIB_DIR");
+    if env::var_os("CARGO_FEATURE_STATIC_LIBRARY").is_none() {
+        return;
+    }
+    let folder = env::var("POMROZEK_STATICLIB_DIR")
+        .expect("POMROZEK_STATICLIB_DIR names the folder that holds libpomrozek.a");
+    println!("cargo:rerun-if-changed={folder}/libpomrozek.a");
+    println!("cargo:rustc-link-search=native={folder}");
+    println!("cargo:rustc-link-lib=static=pomrozek");
+}

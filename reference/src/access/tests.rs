@@ -1,0 +1,118 @@
+//! Each list fault, their order, and who is permitted.
+
+use super::*;
+
+const ONE: [u8; 9] = [1, 3, 0, 5, 0, 0, 0, 0, 0];
+const TWO: [u8; 9] = [2, 3, 0, 6, 0, 10, 0, 0, 0];
+
+fn list_of(entries: &[(usize, [u8; 9])]) -> Vec<u8> {
+    let mut list = vec![0; 292];
+    list[..4].copy_from_slice(&[0xEA, 0xF1, 0x24, 0x01]);
+    for (slot, entry) in entries {
+        list[4 + 9 * slot..][..9].copy_from_slice(entry);
+    }
+    list
+}
+
+fn verdict(list: &[u8]) -> Result<(), ListFault> {
+    accept_list(&mut [0; ACCESS_WORDS], list)
+}
+
+fn verdict_of(entries: &[(usize, [u8; 9])]) -> Result<(), ListFault> {
+    verdict(&list_of(entries))
+}
+
+#[test]
+fn accepted_list_rewrites_every_word() {
+    let mut access = [0x5A5A; ACCESS_WORDS];
+    access[0] = 0;
+    assert_eq!(accept_list(&mut access, &list_of(&[(0, ONE), (31, TWO)])), Ok(()));
+    assert_eq!(access, [1, 3, 5, 0, 0, 3, 6, 10, 0, 0, 0, 0, 0, 0, 0, 0, 0]);
+}
+
+#[test]
+fn refused_list_changes_nothing() {
+    let mut access = [7; ACCESS_WORDS];
+    access[0] = 0;
+    let before = access;
+    let bad = [2, 3, 0, 7, 0, 0, 0, 0, 0];
+    assert_eq!(accept_list(&mut access, &list_of(&[(0, ONE), (1, bad)])), Err(ListFault::A8));
+    assert_eq!(access, before);
+}
+
+#[test]
+fn any_nonzero_first_word_gives_a1() {
+    for word in [1, 2, 0x100, 0x8000] {
+        let mut access = [0; ACCESS_WORDS];
+        access[0] = word;
+        assert_eq!(accept_list(&mut access, &list_of(&[])), Err(ListFault::A1));
+        assert_eq!(accept_list(&mut access, &[]), Err(ListFault::A1));
+    }
+}
+
+#[test]
+fn frame_faults_in_order() {
+    let good = list_of(&[(0, ONE)]);
+    assert_eq!(verdict(&good), Ok(()));
+    assert_eq!(verdict(&good[..291]), Err(ListFault::A2));
+    assert_eq!(verdict(&[]), Err(ListFault::A2));
+    let mut list = good.clone();
+    list[3] = 2;
+    assert_eq!(verdict(&list), Err(ListFault::A4));
+    list[0] = 0xEB;
+    assert_eq!(verdict(&list), Err(ListFault::A3));
+    list.push(0);
+    assert_eq!(verdict(&list), Err(ListFault::A2));
+}
+
+#[test]
+fn entry_faults_in_order() {
+    assert_eq!(verdict_of(&[(0, [3, 7, 0, 7, 0, 0, 0, 0, 0])]), Err(ListFault::A5));
+    assert_eq!(verdict_of(&[(0, ONE), (9, [1, 7, 0, 7, 0, 0, 0, 0, 0])]), Err(ListFault::A6));
+    assert_eq!(verdict_of(&[(0, [1, 7, 0, 7, 0, 0, 0, 0, 0])]), Err(ListFault::A7));
+    assert_eq!(verdict_of(&[(0, [1, 0, 0, 3, 0, 0, 0, 0, 0])]), Err(ListFault::A7));
+    assert_eq!(verdict_of(&[(0, [1, 0x0A, 1, 3, 0, 0, 0, 0, 0])]), Err(ListFault::A7));
+    for at in [3, 5, 7] {
+        let mut entry = TWO;
+        entry[at..at + 2].copy_from_slice(&[3, 1]);
+        assert_eq!(verdict_of(&[(31, entry)]), Err(ListFault::A8));
+    }
+}
+
+#[test]
+fn first_bad_entry_decides() {
+    let no_processor = [9, 3, 0, 0, 0, 0, 0, 0, 0];
+    let bad_secondary = [2, 3, 0, 0, 0, 0, 0, 1, 0];
+    let faults = [(0, ONE), (4, bad_secondary), (5, no_processor), (6, ONE)];
+    assert_eq!(verdict_of(&faults), Err(ListFault::A8));
+    assert_eq!(verdict_of(&faults[2..]), Err(ListFault::A5));
+}
+
+#[test]
+fn unused_entries_are_not_looked_at() {
+    let odd = [0, 7, 7, 7, 7, 7, 7, 7, 7];
+    assert_eq!(verdict_of(&[(0, odd), (1, ONE), (2, odd)]), Ok(()));
+}
+
+#[test]
+fn permission_with_and_without_entry() {
+    let mut access = [0; ACCESS_WORDS];
+    accept_list(&mut access, &list_of(&[(0, ONE)])).unwrap();
+    let permitted = |row| (0..300).filter(|&h| is_permitted(&access, row, h)).collect();
+    let with_entry: Vec<u16> = permitted(0);
+    let open: Vec<u16> = permitted(3);
+    assert_eq!(with_entry, [3, 5]);
+    assert_eq!(open, [3, 4, 5, 6, 10, 12, 13]);
+    assert!(is_recovery_master(&access, 0, 3) && !is_recovery_master(&access, 0, 5));
+    assert!((0..300).all(|h| !is_recovery_master(&access, 3, h)));
+}
+
+#[test]
+fn odd_memory_is_compared_by_full_words() {
+    let mut access = [0; ACCESS_WORDS];
+    row_words_mut(&mut access, 1).copy_from_slice(&[266, 7, 0, 0]);
+    row_words_mut(&mut access, 2).copy_from_slice(&[0, 7, 3, 0]);
+    assert!(!is_permitted(&access, 1, 10) && is_permitted(&access, 1, 7));
+    assert!(!is_permitted(&access, 1, 0));
+    assert!(!is_permitted(&access, 2, 7) && is_permitted(&access, 2, 13));
+}

@@ -1,0 +1,199 @@
+//! Compares the first implementation with the model: its replay program over recordings, and its
+//! static library over calls. Ends with `crosscheck: ok` and exit 0, or names the first difference.
+
+use std::path::{Path, PathBuf};
+use std::process::ExitCode;
+use std::time::{SystemTime, UNIX_EPOCH};
+
+use pomrozek_reference::bench::cases;
+use pomrozek_reference::harness::cases::{recording_of, run_case, Model};
+use pomrozek_reference::harness::coverage::Coverage;
+use pomrozek_reference::harness::edges::edge_recordings;
+use pomrozek_reference::harness::library::{compare_lists, compare_messages, StaticLibrary};
+use pomrozek_reference::harness::program::{first_difference, keep, run};
+use pomrozek_reference::harness::recordings::recording;
+use pomrozek_reference::harness::situations::{Seen, Situations};
+use pomrozek_reference::record::RecordMemory;
+use pomrozek_reference::session::{write_line, Event, Session};
+
+const USAGE: &str = "usage: crosscheck --replay PROGRAM [--seed N] [--recordings N]";
+
+const RECORDINGS: u64 = 2400;
+const LIBRARY_MESSAGES: u64 = 400_000;
+const LIBRARY_LISTS: u64 = 40_000;
+
+/// Bytes fed to the program at once: mostly all of them, sometimes so few that reads come short.
+const PIECES: [usize; 5] = [usize::MAX, usize::MAX, usize::MAX, 1000, 7];
+
+struct Options {
+    replay: PathBuf,
+    seed: u64,
+    recordings: u64,
+}
+
+/// What the recordings reached.
+#[derive(Default)]
+struct Reached {
+    recordings: u64,
+    coverage: Coverage,
+    situations: Situations,
+}
+
+fn main() -> ExitCode {
+    let Some(options) = read_options() else {
+        eprintln!("{USAGE}");
+        return ExitCode::FAILURE;
+    };
+    println!("crosscheck: seed {}", options.seed);
+    match check(&options) {
+        Ok(summary) => {
+            println!("crosscheck: ok: {summary}, seed {}", options.seed);
+            ExitCode::SUCCESS
+        }
+        Err(failure) => {
+            println!("{failure}");
+            let first = failure.lines().next().unwrap_or_default();
+            println!("crosscheck: FAILED: {first}, seed {}", options.seed);
+            ExitCode::FAILURE
+        }
+    }
+}
+
+fn read_options() -> Option<Options> {
+    let mut replay = None;
+    let mut seed = None;
+    let mut recordings = RECORDINGS;
+    let mut arguments = std::env::args().skip(1);
+    while let Some(name) = arguments.next() {
+        let value = arguments.next()?;
+        match name.as_str() {
+            "--replay" => replay = Some(PathBuf::from(value)),
+            "--seed" => seed = Some(value.parse().ok()?),
+            "--recordings" => recordings = value.parse().ok()?,
+            _ => return None,
+        }
+    }
+    let seed = seed.unwrap_or_else(seed_from_clock);
+    Some(Options { replay: replay?, seed, recordings })
+}
+
+fn seed_from_clock() -> u64 {
+    let since = SystemTime::now().duration_since(UNIX_EPOCH);
+    since.map_or(0, |time| time.as_nanos() as u64)
+}
+
+/// Runs all parts; gives what the last line says of them.
+fn check(options: &Options) -> Result<String, String> {
+    check_cases(&options.replay)?;
+    let reached = check_recordings(options)?;
+    let called = check_library(options.seed)?;
+    let gaps = [
+        reached.coverage.gaps(false),
+        reached.coverage.ending_gaps(),
+        reached.situations.gaps(),
+        called.gaps(true),
+    ];
+    if !gaps.concat().is_empty() {
+        return Err(format!("not reached, or not possible\n{}", gaps.concat().join("\n")));
+    }
+    let calls = called.message_total() + called.list_total();
+    let messages = reached.coverage.message_total();
+    Ok(format!("{} recordings, {messages} messages, {calls} library calls", reached.recordings))
+}
+
+/// The fixed cases: model, static library and replay program.
+fn check_cases(replay: &Path) -> Result<(), String> {
+    let cases = cases();
+    for case in &cases {
+        run_case(&Model, case).map_err(|text| format!("model: {text}"))?;
+        run_case(&StaticLibrary, case).map_err(|text| format!("static library: {text}"))?;
+        let (recording, expected) = recording_of(case);
+        let given = run(replay, &recording, usize::MAX)
+            .map_err(|error| format!("{}: {error}", replay.display()))?;
+        if let Some((line, expected, given)) = first_difference(expected.as_bytes(), &given) {
+            let name = case.name;
+            return Err(format!("{name}, line {line}: expected {expected}, given {given}"));
+        }
+    }
+    println!("fixed cases: {}", cases.len());
+    Ok(())
+}
+
+/// The edge recordings and then the random ones, through the replay program and the model.
+fn check_recordings(options: &Options) -> Result<Reached, String> {
+    let edges = edge_recordings();
+    let count = edges.len() as u64 + options.recordings;
+    let random = (0..options.recordings).map(|number| recording(options.seed, number));
+    let mut reached = Reached { recordings: count, ..Reached::default() };
+    for (number, recording) in edges.into_iter().chain(random).enumerate() {
+        let expected = replay_model(&recording, &mut reached);
+        let piece = PIECES[number % PIECES.len()];
+        let given = run(&options.replay, &recording, piece)
+            .map_err(|error| format!("recording {number}: {error}"))?;
+        if let Some(difference) = first_difference(&expected, &given) {
+            return Err(describe(options.seed, number as u64, &recording, difference));
+        }
+    }
+    println!("recordings: {count}; not asked/asked by outcome:\n{}", reached.coverage.table());
+    println!(
+        "bad record {}, cut record {}\n{}",
+        reached.coverage.bad_records,
+        reached.coverage.cut_records,
+        reached.situations.table()
+    );
+    Ok(reached)
+}
+
+fn describe(
+    seed: u64,
+    number: u64,
+    recording: &[u8],
+    (line, expected, given): (usize, String, String),
+) -> String {
+    let kept = match keep(recording, seed, number) {
+        Ok(path) => path.display().to_string(),
+        Err(error) => format!("not kept: {error}"),
+    };
+    format!("recording {number} ({kept}), line {line}\n model   {expected}\n program {given}")
+}
+
+/// The model's lines for a recording; counts what it reaches.
+fn replay_model(recording: &[u8], reached: &mut Reached) -> Vec<u8> {
+    let mut lines = Vec::new();
+    let mut session = Session::new(recording);
+    let mut before = session.records;
+    // Reading from memory and writing to it do not fail.
+    while let Ok(Some(event)) = session.next_event() {
+        let _ = write_line(&mut lines, &event);
+        reached.count(&session, &before, &event);
+        before = session.records;
+    }
+    lines
+}
+
+impl Reached {
+    /// Counts one event. The records are those that a message met.
+    fn count(&mut self, session: &Session<&[u8]>, before: &RecordMemory, event: &Event) {
+        match *event {
+            Event::List(verdict) => self.coverage.count_list(verdict),
+            Event::Status => {}
+            Event::Message(report, _) => {
+                let body = session.body();
+                self.coverage.count_message(&body[1..], report.outcome);
+                let seen = Seen::new((&session.access, before), body, &session.status, report);
+                seen.iter().for_each(|seen| self.situations.count(seen));
+            }
+            Event::Bad => self.coverage.bad_records += 1,
+            Event::Cut => self.coverage.cut_records += 1,
+        }
+    }
+}
+
+/// Calls to the static library.
+fn check_library(seed: u64) -> Result<Coverage, String> {
+    let mut coverage = Coverage::default();
+    compare_messages(seed, LIBRARY_MESSAGES, &mut coverage)?;
+    compare_lists(seed, LIBRARY_LISTS, &mut coverage)?;
+    println!("library calls, not asked/asked by outcome:\n{}", coverage.table());
+    Ok(coverage)
+}

@@ -1,0 +1,135 @@
+//! Runs the fixed cases: over calls in process, and as recordings.
+
+use crate::access::{accept_list, AccessMemory, ACCESS_WORDS};
+use crate::bench::{Case, Step};
+use crate::harness::recordings::{field, message_field, status_field};
+use crate::manager::{handle, Call};
+use crate::message::ANSWER_BYTES;
+use crate::record::{RecordMemory, RECORD_WORDS};
+use crate::session::{write_line, Event, TAG_LIST};
+
+/// The two calls, whoever carries them out, with the lines that tell of them.
+pub trait Calls {
+    /// Takes a list and gives its line.
+    fn list(&self, access: &mut AccessMemory, list: &[u8]) -> String;
+
+    /// Takes a message and gives its line.
+    fn message(
+        &self,
+        access: &AccessMemory,
+        records: &mut RecordMemory,
+        call: &Call,
+        answer: &mut [u8],
+    ) -> String;
+}
+
+/// The calls of this crate.
+pub struct Model;
+
+impl Calls for Model {
+    fn list(&self, access: &mut AccessMemory, list: &[u8]) -> String {
+        line_of(&Event::List(accept_list(access, list)))
+    }
+
+    fn message(
+        &self,
+        access: &AccessMemory,
+        records: &mut RecordMemory,
+        call: &Call,
+        answer: &mut [u8],
+    ) -> String {
+        let report = handle(access, records, call, answer);
+        let mut bytes = [0; ANSWER_BYTES];
+        bytes[..report.written].copy_from_slice(&answer[..report.written]);
+        line_of(&Event::Message(report, bytes))
+    }
+}
+
+fn line_of(event: &Event) -> String {
+    let mut line = Vec::new();
+    write_line(&mut line, event).expect("a vector takes all bytes");
+    String::from_utf8_lossy(&line).trim_end().to_string()
+}
+
+/// Runs a case from the start; says which step gave another line than it has to.
+pub fn run_case(calls: &impl Calls, case: &Case) -> Result<(), String> {
+    let mut access = [0; ACCESS_WORDS];
+    let mut records = [0; RECORD_WORDS];
+    let mut status: &[u32] = &[];
+    for (number, step) in case.steps.iter().enumerate() {
+        let (given, expected) = match step {
+            Step::List { list, line } => (calls.list(&mut access, list), line),
+            Step::Status { words } => {
+                status = words;
+                continue;
+            }
+            Step::Message { channel, message, room, line } => {
+                let call = Call { channel: *channel, message, status };
+                let mut answer = vec![0; *room];
+                (calls.message(&access, &mut records, &call, &mut answer), line)
+            }
+        };
+        if given != *expected {
+            let step = number + 1;
+            return Err(format!("{}, step {step}: expected {expected}, given {given}", case.name));
+        }
+    }
+    Ok(())
+}
+
+/// The case as a recording and the lines that it has to give. Steps with another answer buffer are
+/// left out, as a recording cannot say them.
+pub fn recording_of(case: &Case) -> (Vec<u8>, String) {
+    let mut recording = Vec::new();
+    let mut lines = String::new();
+    for step in &case.steps {
+        let (bytes, line) = match step {
+            Step::List { list, line } => (field(TAG_LIST, list), *line),
+            Step::Status { words } => (status_field(words), ""),
+            Step::Message { room, .. } if *room != ANSWER_BYTES => continue,
+            Step::Message { channel, message, line, .. } => {
+                (message_field(*channel, message), *line)
+            }
+        };
+        recording.extend(bytes);
+        if !line.is_empty() {
+            lines.push_str(line);
+            lines.push('\n');
+        }
+    }
+    (recording, lines)
+}
+
+#[cfg(test)]
+mod tests {
+    use super::*;
+    use crate::bench::cases;
+    use crate::session::replay;
+
+    #[test]
+    fn model_gives_the_fixed_lines() {
+        for case in cases() {
+            assert_eq!(run_case(&Model, &case), Ok(()));
+        }
+    }
+
+    #[test]
+    fn replay_prints_the_fixed_lines() {
+        for case in cases() {
+            let (recording, expected) = recording_of(&case);
+            let mut lines = Vec::new();
+            replay(recording.as_slice(), &mut lines).unwrap();
+            assert_eq!(String::from_utf8(lines).unwrap(), expected, "{}", case.name);
+        }
+    }
+
+    #[test]
+    fn worked_session_is_four_lines() {
+        let case = cases().pop().unwrap();
+        let expected = "list OK\n\
+            OK 0 0 00c0030702000000\n\
+            N7 0 0 00c0050100000000\n\
+            OK 0 0 -\n";
+        assert_eq!(recording_of(&case).1, expected);
+    }
+}

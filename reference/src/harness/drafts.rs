@@ -1,0 +1,200 @@
+//! Makes messages that steer toward a goal. Faults that are tested later than the goal are put in
+//! at random, so that the order of the tests is tried as well.
+
+use crate::access::{row_words, AccessMemory};
+use crate::board::{HOSTS, PROCESSORS};
+use crate::harness::goals::{Goal, Subject};
+use crate::harness::random::Random;
+use crate::manager::{handle, Call};
+use crate::message::{Kind, ANSWER_BYTES, HEADER_BYTES, LONGEST_MESSAGE};
+use crate::outcome::Outcome;
+use crate::record::{Record, RecordMemory};
+
+/// The longest message that a recording can hold.
+pub const LONGEST_RECORDED: usize = 511;
+
+const TRIES: usize = 24;
+
+/// The state that a message will meet.
+#[derive(Clone, Copy)]
+pub struct Scene<'a> {
+    pub access: &'a AccessMemory,
+    pub records: &'a RecordMemory,
+    pub status: &'a [u32],
+    /// the most status words that can be given
+    pub most_words: usize,
+}
+
+/// A message, and the status words it is meant to meet if the ones that stand will not do.
+pub struct Draft {
+    pub channel: u8,
+    pub message: Vec<u8>,
+    pub status: Option<Vec<u32>>,
+}
+
+impl Draft {
+    /// The outcome in this scene. Nothing is changed.
+    pub fn outcome(&self, scene: &Scene) -> Outcome {
+        let status = self.status.as_deref().unwrap_or(scene.status);
+        let call = Call { channel: self.channel, message: &self.message, status };
+        handle(scene.access, &mut scene.records.clone(), &call, &mut [0; ANSWER_BYTES]).outcome
+    }
+
+    /// Whether the goal is reached. R1 depends on the answer buffer, so any message will do.
+    fn reaches(&self, scene: &Scene, goal: Goal) -> bool {
+        goal.outcome == Outcome::R1 || self.outcome(scene) == goal.outcome
+    }
+}
+
+/// A message that reaches the goal, as far as some tries find one.
+pub fn draft(random: &mut Random, scene: &Scene, goal: Goal) -> Draft {
+    let mut drafter = Drafter { random, scene: *scene, goal };
+    let mut draft = drafter.attempt();
+    for _ in 1..TRIES {
+        if draft.reaches(scene, goal) {
+            break;
+        }
+        draft = drafter.attempt();
+    }
+    // Half of the time the words that stand are kept where they do as well.
+    let standing = draft.status.take_if(|_| random.one_in(2));
+    if standing.is_some() && !draft.reaches(scene, goal) {
+        draft.status = standing;
+    }
+    draft
+}
+
+/// What goes into the making of one message.
+pub(super) struct Drafter<'a> {
+    pub(super) random: &'a mut Random,
+    pub(super) scene: Scene<'a>,
+    goal: Goal,
+}
+
+impl Drafter<'_> {
+    /// Whether to make the fault of this outcome: always for the goal, sometimes for a later test.
+    pub(super) fn faulty(&mut self, outcome: Outcome) -> bool {
+        outcome == self.goal.outcome || (self.goal.outcome < outcome && self.random.one_in(5))
+    }
+
+    fn attempt(&mut self) -> Draft {
+        let row = self.random.below(PROCESSORS.len());
+        let (channel, host) = self.hosts(row);
+        let mut message = self.header(host);
+        let mut status = None;
+        if let Subject::Type(kind) = self.goal.subject {
+            message.push(self.processor(row));
+            status = self.add_fields(&mut message, kind, row);
+            message.resize(kind.size(), 0);
+        }
+        self.shape_length(&mut message);
+        Draft { channel, message, status }
+    }
+
+    /// The channel's host and the header's.
+    fn hosts(&mut self, row: usize) -> (u8, u8) {
+        let sender = self.sender(row);
+        if !self.faulty(Outcome::N2) {
+            return (sender, sender);
+        }
+        let other = self.random.pick_or(&[0, 7, 11, 14, 131], Random::u8);
+        let board = self.random.pick(&HOSTS) as u8;
+        let pairs = [(other, other), (other, sender), (sender, other), (0, 0), (sender, board)];
+        self.random.pick(&pairs)
+    }
+
+    /// A board host, often one with a part in this row.
+    fn sender(&mut self, row: usize) -> u8 {
+        let any = self.random.pick(&HOSTS[1..]) as u8;
+        let controller = Record::load(self.scene.records, row).controller as u8;
+        let named = self.random.pick(row_words(self.scene.access, row)) as u8;
+        let wanted = self.random.pick(&[controller, controller, named, any]);
+        if HOSTS[1..].contains(&u16::from(wanted)) {
+            wanted
+        } else {
+            any
+        }
+    }
+
+    fn header(&mut self, host: u8) -> Vec<u8> {
+        let number = match self.goal.subject {
+            Subject::Type(kind) => kind.number(),
+            _ => self.other_type(),
+        };
+        let mut message = number.to_le_bytes().to_vec();
+        let extra = if self.random.one_in(2) { self.random.u32() & !2 } else { 0 };
+        let flags = extra | if self.goal.asked { 2 } else { 0 };
+        message.extend([host, self.random.u8()]);
+        message.extend(flags.to_le_bytes());
+        message
+    }
+
+    /// A type that is not in the table, often near one that is.
+    fn other_type(&mut self) -> u16 {
+        let near = [0xC002, 0xC004, 0xC006, 0xC102, 0xC121, 0xC402, 0x00C0, 0xC200, 0x4000, 0xC500];
+        let number = self.random.pick_or(&near, Random::u16);
+        if Kind::of(number).is_some() {
+            near[0]
+        } else {
+            number
+        }
+    }
+
+    fn processor(&mut self, row: usize) -> u8 {
+        if self.faulty(Outcome::N6) {
+            self.random.pick_or(&[0, 3, 31, 34, 129, 255], Random::u8)
+        } else {
+            PROCESSORS[row].number
+        }
+    }
+
+    /// Cuts or pads the message: behind its structure come zeros or stale bytes.
+    fn shape_length(&mut self, message: &mut Vec<u8>) {
+        let size = message.len();
+        let longer = self.random.between(size, LONGEST_MESSAGE);
+        let length = self.random.pick(&[size, LONGEST_MESSAGE, longer]);
+        self.pad(message, length);
+        if self.faulty(Outcome::N4) && size > HEADER_BYTES {
+            message.truncate(self.random.between(HEADER_BYTES, size - 1));
+        }
+        if self.goal.subject == Subject::Short {
+            message.truncate(self.random.below(HEADER_BYTES));
+        } else if self.faulty(Outcome::R2) {
+            let length = self.random.between(LONGEST_MESSAGE + 1, LONGEST_RECORDED);
+            let length = self.random.pick(&[LONGEST_MESSAGE + 1, length, LONGEST_RECORDED]);
+            self.pad(message, length);
+        }
+    }
+
+    fn pad(&mut self, message: &mut Vec<u8>, length: usize) {
+        let stale = self.random.one_in(2);
+        while message.len() < length {
+            message.push(if stale { self.random.u8() } else { 0 });
+        }
+    }
+}
+
+#[cfg(test)]
+mod tests {
+    use super::*;
+    use crate::access::{accept_list, ACCESS_WORDS};
+    use crate::harness::goals::goals;
+    use crate::harness::lists::good_list;
+    use crate::record::RECORD_WORDS;
+
+    #[test]
+    fn drafts_reach_each_goal_that_the_state_allows() {
+        let mut random = Random::new(6, 0);
+        let mut access = [0; ACCESS_WORDS];
+        accept_list(&mut access, &good_list(&mut random)).unwrap();
+        let mut records = [0; RECORD_WORDS];
+        records[0] = 3;
+        let scene = Scene { access: &access, records: &records, status: &[], most_words: 255 };
+        let reachable = |goal: &Goal| !matches!(goal.outcome, Outcome::R1 | Outcome::N1);
+        for goal in goals().into_iter().filter(reachable) {
+            let reached =
+                (0..20).any(|_| draft(&mut random, &scene, goal).outcome(&scene) == goal.outcome);
+            assert!(reached, "{goal:?}");
+        }
+    }
+}

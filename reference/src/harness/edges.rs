@@ -1,0 +1,79 @@
+//! Recordings with a bad tag, a bad length or a cut at every position, and with the longest and
+//! shortest good fields.
+
+use crate::harness::recordings::{field, header_of, message_field, status_field};
+use crate::session::{TAG_LIST, TAG_MESSAGE, TAG_STATUS};
+
+/// Lengths on both sides of each limit.
+const LENGTHS: [usize; 19] =
+    [0, 1, 2, 3, 4, 5, 256, 511, 512, 513, 516, 768, 1016, 1019, 1020, 1021, 1024, 1028, 65_535];
+
+/// All of these recordings, always the same.
+pub fn edge_recordings() -> Vec<Vec<u8>> {
+    let whole = small_recording();
+    let mut recordings: Vec<_> = (0..=whole.len()).map(|cut| whole[..cut].to_vec()).collect();
+    for start in field_starts() {
+        recordings.extend(spoiled(&whole, start));
+    }
+    recordings
+}
+
+/// A recording with one small field of each kind.
+fn small_recording() -> Vec<u8> {
+    small_fields().concat()
+}
+
+fn small_fields() -> [Vec<u8>; 4] {
+    [
+        field(TAG_LIST, &[0xEA, 0xF1, 0x24]),
+        status_field(&[1, 2]),
+        message_field(3, &[0, 0xC0, 3, 7, 2, 0, 0, 0, 1]),
+        field(TAG_LIST, &[]),
+    ]
+}
+
+/// Where each field starts, and where the recording ends.
+fn field_starts() -> Vec<usize> {
+    let fields = small_fields();
+    (0..=fields.len()).map(|count| fields[..count].concat().len()).collect()
+}
+
+/// The recording with something else put in at `start`: bad tags, alone and with a length, and each
+/// good tag with each length, with half and all of its body.
+fn spoiled(whole: &[u8], start: usize) -> Vec<Vec<u8>> {
+    let bad_tags = [0, 4, 5, 128, 129, 130, 131, 255];
+    let mut pieces: Vec<_> = bad_tags.map(|tag| vec![tag]).to_vec();
+    pieces.extend(bad_tags.map(|tag| header_of(tag, 0).to_vec()));
+    for tag in [TAG_LIST, TAG_STATUS, TAG_MESSAGE] {
+        for length in LENGTHS {
+            let bare = header_of(tag, length).to_vec();
+            let mut full = bare.clone();
+            full.resize(bare.len() + length, 3);
+            pieces.push(full[..bare.len() + length / 2].to_vec());
+            pieces.push(full);
+        }
+    }
+    let insert = |piece: &Vec<u8>| [&whole[..start], piece, &whole[start..]].concat();
+    pieces.iter().map(insert).collect()
+}
+
+#[cfg(test)]
+mod tests {
+    use super::*;
+    use crate::session::replay;
+
+    #[test]
+    fn edges_have_all_endings() {
+        let endings = ["bad record\n", "cut record\n", "list A2\n"];
+        let mut counts = [0; 3];
+        for recording in edge_recordings() {
+            let mut lines = Vec::new();
+            replay(recording.as_slice(), &mut lines).unwrap();
+            let text = String::from_utf8(lines).unwrap();
+            for (count, ending) in counts.iter_mut().zip(endings) {
+                *count += usize::from(text.ends_with(ending));
+            }
+        }
+        assert!(counts.iter().all(|&count| count > 20), "{counts:?}");
+    }
+}

@@ -1,0 +1,127 @@
+//! What a message can come to: the combinations of type, outcome and answer asked or not, worked
+//! out from the order of the tests.
+
+use crate::harness::random::Random;
+use crate::message::{Header, Kind, KINDS};
+use crate::outcome::Outcome;
+use Outcome::{N1, N2, N3, N4, N5, N6, N7, N8, N9, OK, R1, R2, R3};
+
+/// What a message is counted under: its type, another type, or no header.
+#[derive(Clone, Copy, Debug, PartialEq, Eq)]
+pub enum Subject {
+    Type(Kind),
+    Other,
+    Short,
+}
+
+/// How many subjects there are.
+pub const SUBJECTS: usize = KINDS.len() + 2;
+
+impl Subject {
+    /// The subject of a message, and whether an answer is asked for. A message without a whole
+    /// header asks for nothing.
+    pub fn of(message: &[u8]) -> (Subject, bool) {
+        match Header::read(message) {
+            None => (Subject::Short, false),
+            Some(header) => {
+                let subject = Kind::of(header.number).map_or(Subject::Other, Subject::Type);
+                (subject, header.asks_for_answer())
+            }
+        }
+    }
+
+    /// Its place in tables.
+    pub fn index(self) -> usize {
+        match self {
+            Subject::Type(kind) => kind as usize,
+            Subject::Other => KINDS.len(),
+            Subject::Short => KINDS.len() + 1,
+        }
+    }
+
+    /// Its name in tables.
+    pub fn name(self) -> String {
+        match self {
+            Subject::Type(kind) => format!("{kind:?}"),
+            other => format!("{other:?}").to_lowercase(),
+        }
+    }
+}
+
+/// The outcomes that each subject can have. R1 needs a short answer buffer, which a recording
+/// cannot say. A short message asks for no answer; all others come with and without asking.
+pub const POSSIBLE: [(Subject, &[Outcome]); SUBJECTS] = [
+    (Subject::Type(Kind::Request), &[R1, R2, N1, N2, N4, N6, N7, OK]),
+    (Subject::Type(Kind::Release), &[R1, R2, N1, N2, N4, N6, N7, OK]),
+    (Subject::Type(Kind::Handover), &[R1, R2, N1, N2, N4, N6, N7, N8, OK]),
+    (Subject::Type(Kind::SetConfig), &[R1, R2, N1, N2, N4, N6, N7, N8, OK]),
+    (Subject::Type(Kind::SetControl), &[R1, R2, N1, N2, N4, N6, N7, N8, OK]),
+    (Subject::Type(Kind::AuthBoot), &[R1, R2, N1, N2, N4, N5]),
+    (Subject::Type(Kind::GetStatus), &[R1, R2, N1, N2, N4, N6, N7, R3, OK]),
+    (Subject::Type(Kind::WaitStatus), &[R1, R2, N1, N2, N4, N6, N7, N8, R3, N9, OK]),
+    (Subject::Other, &[R1, R2, N1, N2, N3]),
+    (Subject::Short, &[R1, R2]),
+];
+
+/// What a generated message is meant to reach.
+#[derive(Clone, Copy, Debug)]
+pub struct Goal {
+    pub subject: Subject,
+    pub outcome: Outcome,
+    pub asked: bool,
+}
+
+impl Goal {
+    /// A request that is carried out.
+    pub const REQUEST: Goal =
+        Goal { subject: Subject::Type(Kind::Request), outcome: OK, asked: true };
+
+    /// A status answer, which shows what a record holds.
+    pub const STATUS: Goal =
+        Goal { subject: Subject::Type(Kind::GetStatus), outcome: OK, asked: true };
+
+    /// Whether some host has to control a processor for the goal to be reached.
+    pub fn needs_controller(&self) -> bool {
+        use Kind::{Handover, Release, SetConfig, SetControl};
+        let Subject::Type(kind) = self.subject else {
+            return false;
+        };
+        let by_controller = [Release, Handover, SetConfig, SetControl].contains(&kind);
+        by_controller && matches!(self.outcome, N8 | OK)
+    }
+}
+
+/// Every combination that can be reached.
+pub fn goals() -> Vec<Goal> {
+    let mut goals = Vec::new();
+    for (subject, outcomes) in POSSIBLE {
+        for &outcome in outcomes {
+            goals.push(Goal { subject, outcome, asked: false });
+            if subject != Subject::Short {
+                goals.push(Goal { subject, outcome, asked: true });
+            }
+        }
+    }
+    goals
+}
+
+/// One of the goals that pass the test, of which there is at least one.
+pub fn pick_goal(random: &mut Random, goals: &[Goal], test: impl Fn(Outcome) -> bool) -> Goal {
+    loop {
+        let goal = random.pick(goals);
+        if test(goal.outcome) {
+            return goal;
+        }
+    }
+}
+
+#[cfg(test)]
+mod tests {
+    use super::*;
+
+    #[test]
+    fn short_messages_have_their_own_row() {
+        assert_eq!(Subject::of(&[0, 0xC0, 3, 0, 2, 0, 0]), (Subject::Short, false));
+        assert_eq!(Subject::of(&[2, 0xC0, 3, 0, 2, 0, 0, 0]), (Subject::Other, true));
+    }
+}

@@ -1,0 +1,186 @@
+//! Makes access lists: good ones, and ones with one or several faults.
+
+use crate::access::{ListFault, ENTRY_BYTES, LIST_BYTES, LIST_HEADER_BYTES, LIST_MAGIC};
+use crate::board::{is_board_host, row_of, HOSTS, PROCESSORS};
+use crate::harness::random::Random;
+
+const SLOTS: usize = (LIST_BYTES - LIST_HEADER_BYTES) / ENTRY_BYTES;
+
+/// Numbers that are no board host, among them board hosts with a bit in the high byte.
+const ODD_HOSTS: [u16; 12] = [1, 2, 7, 14, 255, 256, 259, 266, 268, 0x0300, 0x0A00, 0xFF03];
+
+/// Lengths worth trying besides random ones; 164 is the older form of the list.
+const ODD_LENGTHS: [usize; 9] = [0, 1, 3, 4, 13, 164, 291, 293, 512];
+
+/// A good list: entries for some of the processors, anywhere in the list, and sometimes odd bytes
+/// in the unused entries.
+pub fn good_list(random: &mut Random) -> Vec<u8> {
+    let mut list = empty_list(random);
+    let first = random.below(SLOTS);
+    // A step that shares no factor with the number of slots visits each of them once.
+    let step = 2 * random.below(SLOTS / 2) + 1;
+    for (place, processor) in PROCESSORS.iter().enumerate() {
+        if !random.one_in(4) {
+            let slot = (first + place * step) % SLOTS;
+            let entry = good_entry(random, processor.number);
+            put(&mut list, slot, &entry);
+        }
+    }
+    list
+}
+
+/// A list with these entries from the first slot on, and zeros behind them.
+pub fn list_of(entries: &[[u8; ENTRY_BYTES]]) -> Vec<u8> {
+    let mut list = list_header();
+    list.resize(LIST_BYTES, 0);
+    for (slot, entry) in entries.iter().enumerate() {
+        put(&mut list, slot, entry);
+    }
+    list
+}
+
+/// The nine bytes of an entry: processor, master, secondaries.
+pub fn entry(processor: u8, hosts: [u16; 4]) -> [u8; ENTRY_BYTES] {
+    let mut bytes = [processor; ENTRY_BYTES];
+    for (place, host) in hosts.iter().enumerate() {
+        bytes[1 + 2 * place..][..2].copy_from_slice(&host.to_le_bytes());
+    }
+    bytes
+}
+
+/// A list with the given fault, sometimes with others as well. A list cannot have A1 in itself, so
+/// nothing is planted for that.
+pub fn faulty_list(random: &mut Random, fault: ListFault, longest: usize) -> Vec<u8> {
+    let mut list = good_list(random);
+    for _ in 0..random.pick(&[0, 0, 0, 1, 2]) {
+        let other = random.pick(&[ListFault::A5, ListFault::A6, ListFault::A7, ListFault::A8]);
+        plant(random, &mut list, other, longest);
+    }
+    for other in [ListFault::A3, ListFault::A4] {
+        if random.one_in(8) {
+            plant(random, &mut list, other, longest);
+        }
+    }
+    // Last, as A2 changes the length that the others need.
+    plant(random, &mut list, fault, longest);
+    list
+}
+
+/// Puts one fault into a list of full length.
+fn plant(random: &mut Random, list: &mut Vec<u8>, fault: ListFault, longest: usize) {
+    match fault {
+        ListFault::A1 => {}
+        ListFault::A2 => resize(random, list, longest),
+        ListFault::A3 => flip_bit(random, list, 0),
+        ListFault::A4 => flip_bit(random, list, 2),
+        _ => plant_in_entry(random, list, fault),
+    }
+}
+
+/// Puts one of the faults A5 to A8 into some entry, sometimes with later ones in the same entry.
+fn plant_in_entry(random: &mut Random, list: &mut [u8], fault: ListFault) {
+    let slot = random.pick_or(&[0, SLOTS - 1], |random| random.below(SLOTS));
+    let processor = random.pick(&PROCESSORS).number;
+    let mut bytes = good_entry(random, processor);
+    match fault {
+        ListFault::A5 => bytes[0] = odd_processor(random),
+        ListFault::A6 => {
+            let other = good_entry(random, processor);
+            put(list, random.below(SLOTS), &other);
+        }
+        _ => {}
+    }
+    if fault == ListFault::A7 || (fault < ListFault::A7 && random.one_in(3)) {
+        let master = if random.one_in(4) { 0 } else { odd_host(random) };
+        bytes[1..3].copy_from_slice(&master.to_le_bytes());
+    }
+    if fault == ListFault::A8 || random.one_in(3) {
+        let at = random.pick(&[3, 5, 7]);
+        bytes[at..at + 2].copy_from_slice(&odd_host(random).to_le_bytes());
+    }
+    put(list, slot, &bytes);
+}
+
+/// A number that no processor of the board has, nor an unused entry.
+fn odd_processor(random: &mut Random) -> u8 {
+    let number = random.pick_or(&[3, 31, 34, 129, 255], Random::u8);
+    if number == 0 || row_of(number).is_some() {
+        3
+    } else {
+        number
+    }
+}
+
+/// A number that no host of the board has.
+pub fn odd_host(random: &mut Random) -> u16 {
+    let host = random.u16();
+    if random.one_in(3) && !is_board_host(host) {
+        host
+    } else {
+        random.pick(&ODD_HOSTS)
+    }
+}
+
+fn good_entry(random: &mut Random, processor: u8) -> [u8; ENTRY_BYTES] {
+    let master = random.pick(&HOSTS[1..]);
+    entry(processor, [master, random.pick(&HOSTS), random.pick(&HOSTS), random.pick(&HOSTS)])
+}
+
+fn list_header() -> Vec<u8> {
+    let mut list = LIST_MAGIC.to_le_bytes().to_vec();
+    list.extend((LIST_BYTES as u16).to_le_bytes());
+    list
+}
+
+/// A list with no used entry; one in three has odd bytes behind the zero processors.
+fn empty_list(random: &mut Random) -> Vec<u8> {
+    let mut list = list_of(&[]);
+    if random.one_in(3) {
+        for slot in 0..SLOTS {
+            let hosts = [random.u16(), random.u16(), random.u16(), random.u16()];
+            put(&mut list, slot, &entry(0, hosts));
+        }
+    }
+    list
+}
+
+fn put(list: &mut [u8], slot: usize, entry: &[u8; ENTRY_BYTES]) {
+    list[LIST_HEADER_BYTES + ENTRY_BYTES * slot..][..ENTRY_BYTES].copy_from_slice(entry);
+}
+
+fn resize(random: &mut Random, list: &mut Vec<u8>, longest: usize) {
+    let length =
+        if random.one_in(2) { random.pick(&ODD_LENGTHS) } else { random.between(0, longest) };
+    list.resize(length, 0);
+}
+
+fn flip_bit(random: &mut Random, list: &mut [u8], at: usize) {
+    list[at + random.below(2)] ^= 1 << random.below(8);
+}
+
+#[cfg(test)]
+mod tests {
+    use super::*;
+    use crate::access::{accept_list, ACCESS_WORDS, LIST_FAULTS};
+
+    #[test]
+    fn good_lists_are_accepted() {
+        let mut random = Random::new(2, 0);
+        for _ in 0..200 {
+            let list = good_list(&mut random);
+            assert_eq!(accept_list(&mut [0; ACCESS_WORDS], &list), Ok(()));
+        }
+    }
+
+    #[test]
+    fn faulty_lists_reach_each_fault() {
+        let mut random = Random::new(3, 0);
+        for fault in &LIST_FAULTS[1..] {
+            let reached = (0..200).any(|_| {
+                let list = faulty_list(&mut random, *fault, 512);
+                accept_list(&mut [0; ACCESS_WORDS], &list) == Err(*fault)
+            });
+            assert!(reached, "{fault:?}");
+        }
+    }
+}

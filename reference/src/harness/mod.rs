@@ -1,0 +1,20 @@
+//! Makes recordings and calls that steer into every outcome, counts what they reach, and runs them
+//! through the first implementation.
+
+pub mod cases;
+pub mod clients;
+pub mod coverage;
+pub mod drafts;
+pub mod edges;
+pub mod goals;
+#[cfg(feature = "static-library")]
+pub mod library;
+pub mod lists;
+pub mod memories;
+mod operands;
+pub mod program;
+pub mod random;
+pub mod recordings;
+pub mod situations;
+pub mod timing;
+pub mod waits;

@@ -1,0 +1,231 @@
+//! Makes session recordings: the list, status words and messages of a session, sometimes with a
+//! bad or cut field at the end.
+
+use crate::access::{accept_list, has_list, AccessMemory, ACCESS_WORDS, LIST_FAULTS};
+use crate::board::PROCESSORS;
+use crate::harness::clients::{client_list, client_status, mixed_clients};
+use crate::harness::drafts::{draft, Scene, LONGEST_RECORDED};
+use crate::harness::goals::{goals, pick_goal, Goal};
+use crate::harness::lists::{faulty_list, good_list};
+use crate::harness::random::Random;
+use crate::manager::{handle, Call};
+use crate::message::ANSWER_BYTES;
+use crate::outcome::Outcome;
+use crate::record::{Record, RecordMemory, RECORD_WORDS};
+use crate::session::{TAG_LIST, TAG_MESSAGE, TAG_STATUS};
+
+/// The most status words and the longest list that a recording can hold.
+const MOST_WORDS: usize = 255;
+const LONGEST_LIST: usize = 512;
+
+/// Status answers at the end of a steered recording, which show what the records hold.
+const LAST_LOOKS: usize = 6;
+
+/// One recording in this many is a long one.
+const LONG_EVERY: u64 = 400;
+const LONG_MESSAGES: usize = 2000;
+
+/// One recording in this many holds what published boot code sends.
+const CLIENTS_EVERY: u64 = 8;
+
+/// A field of a recording: tag, length, body.
+pub fn field(tag: u8, body: &[u8]) -> Vec<u8> {
+    let mut bytes = vec![tag];
+    bytes.extend((body.len() as u16).to_le_bytes());
+    bytes.extend(body);
+    bytes
+}
+
+/// A field with the channel's host and a message.
+pub fn message_field(channel: u8, message: &[u8]) -> Vec<u8> {
+    let mut body = vec![channel];
+    body.extend(message);
+    field(TAG_MESSAGE, &body)
+}
+
+/// A field with status words.
+pub fn status_field(words: &[u32]) -> Vec<u8> {
+    let body: Vec<u8> = words.iter().flat_map(|word| word.to_le_bytes()).collect();
+    field(TAG_STATUS, &body)
+}
+
+/// The recording of this number, which with the seed is all that it depends on.
+pub fn recording(seed: u64, number: u64) -> Vec<u8> {
+    let mut recorder = Recorder::new(Random::new(seed, number));
+    if number % LONG_EVERY == LONG_EVERY - 1 {
+        recorder.steer(LONG_MESSAGES);
+    } else if number % CLIENTS_EVERY == CLIENTS_EVERY - 1 {
+        recorder.follow_clients();
+    } else {
+        let messages = recorder.random.between(20, 60);
+        recorder.steer(messages);
+    }
+    recorder.finish()
+}
+
+/// A recording that is being made, and the state that it leads to.
+struct Recorder {
+    random: Random,
+    bytes: Vec<u8>,
+    access: AccessMemory,
+    records: RecordMemory,
+    status: Vec<u32>,
+}
+
+impl Recorder {
+    fn new(random: Random) -> Recorder {
+        Recorder {
+            random,
+            bytes: Vec::new(),
+            access: [0; ACCESS_WORDS],
+            records: [0; RECORD_WORDS],
+            status: Vec::new(),
+        }
+    }
+
+    fn list(&mut self, list: &[u8]) {
+        self.bytes.extend(field(TAG_LIST, list));
+        // The verdict does not matter here: the state is right either way.
+        let _ = accept_list(&mut self.access, list);
+    }
+
+    fn status(&mut self, words: Vec<u32>) {
+        self.bytes.extend(status_field(&words));
+        self.status = words;
+    }
+
+    fn message(&mut self, channel: u8, message: &[u8]) {
+        self.bytes.extend(message_field(channel, message));
+        let call = Call { channel, message, status: &self.status };
+        handle(&self.access, &mut self.records, &call, &mut [0; ANSWER_BYTES]);
+    }
+
+    /// Messages and refused lists before the list, then this many goals one after the other.
+    fn steer(&mut self, messages: usize) {
+        let goals = goals();
+        for _ in 0..self.random.below(5) {
+            self.approach(&goals);
+            if self.random.one_in(2) {
+                let fault = self.random.pick(&LIST_FAULTS[1..]);
+                let list = faulty_list(&mut self.random, fault, LONGEST_LIST);
+                self.list(&list);
+            }
+        }
+        if !self.random.one_in(20) {
+            let list = good_list(&mut self.random);
+            self.list(&list);
+        }
+        for _ in 0..messages {
+            self.steer_once(&goals);
+        }
+        for _ in 0..LAST_LOOKS {
+            self.send_toward(Goal::STATUS);
+        }
+    }
+
+    /// Mostly a message with a goal; now and then another list, other words or mere noise.
+    fn steer_once(&mut self, goals: &[Goal]) {
+        match self.random.below(60) {
+            0 => {
+                let fault = self.random.pick(&LIST_FAULTS);
+                let list = faulty_list(&mut self.random, fault, LONGEST_LIST);
+                self.list(&list);
+            }
+            1 => {
+                let count = self.random.between(0, MOST_WORDS);
+                let words = self.random.words(count);
+                self.status(words);
+            }
+            2 => {
+                let length = self.random.between(0, LONGEST_RECORDED);
+                let noise = self.random.bytes(length);
+                let channel = self.random.u8();
+                self.message(channel, &noise);
+            }
+            _ => self.approach(goals),
+        }
+    }
+
+    /// One message toward a goal that the state allows, with a request before it where control is
+    /// needed and often lacking, and sometimes a look at the records behind it.
+    fn approach(&mut self, goals: &[Goal]) {
+        let listed = has_list(&self.access);
+        let goal = pick_goal(&mut self.random, goals, |outcome| match outcome {
+            Outcome::R1 => false,
+            Outcome::R2 => true,
+            Outcome::N1 => !listed,
+            _ => listed,
+        });
+        if goal.needs_controller() && self.free_processors() > 1 {
+            self.send_toward(Goal::REQUEST);
+        }
+        self.send_toward(goal);
+        if listed && goal.outcome == Outcome::OK && self.random.one_in(3) {
+            self.send_toward(Goal::STATUS);
+        }
+    }
+
+    fn free_processors(&self) -> usize {
+        let rows = 0..PROCESSORS.len();
+        rows.filter(|&row| Record::load(&self.records, row).is_free()).count()
+    }
+
+    fn send_toward(&mut self, goal: Goal) {
+        let scene = Scene {
+            access: &self.access,
+            records: &self.records,
+            status: &self.status,
+            most_words: MOST_WORDS,
+        };
+        let draft = draft(&mut self.random, &scene, goal);
+        if let Some(words) = draft.status {
+            self.status(words);
+        }
+        self.message(draft.channel, &draft.message);
+    }
+
+    /// What published boot code sends, sometimes under a list that was made for something else.
+    fn follow_clients(&mut self) {
+        let list = if self.random.one_in(4) { good_list(&mut self.random) } else { client_list() };
+        self.list(&list);
+        for (channel, message) in mixed_clients(&mut self.random) {
+            if self.random.one_in(12) {
+                let words = client_status(&mut self.random);
+                self.status(words);
+            }
+            self.message(channel, &message);
+        }
+    }
+
+    /// The whole recording. Half of them end in a bad or a cut field.
+    fn finish(mut self) -> Vec<u8> {
+        match self.random.below(4) {
+            0 => self.add_bad_field(),
+            1 => {
+                let cut = self.random.below(self.bytes.len().min(600)) + 1;
+                self.bytes.truncate(self.bytes.len() - cut);
+            }
+            _ => {}
+        }
+        self.bytes
+    }
+
+    /// A bad tag or a bad length, and behind it a good field that must not be read.
+    fn add_bad_field(&mut self) {
+        let long = self.random.between(1021, 65_535);
+        let bad = match self.random.below(4) {
+            0 => header_of(self.random.pick_or(&[0, 4], |random| random.between(4, 255) as u8), 0),
+            1 => header_of(TAG_LIST, self.random.pick(&[513, long])),
+            2 => header_of(TAG_STATUS, self.random.pick(&[1, 2, 3, 6, 1019, 1021, 1024, long])),
+            _ => header_of(TAG_MESSAGE, self.random.pick(&[0, 513, long])),
+        };
+        self.bytes.extend(bad);
+        self.message(3, &[0; 9]);
+    }
+}
+
+/// The tag and length that start a field.
+pub fn header_of(tag: u8, length: usize) -> [u8; 3] {
+    let length = (length as u16).to_le_bytes();
+    [tag, length[0], length[1]]
+}

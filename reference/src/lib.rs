@@ -1,0 +1,20 @@
+//! A second implementation of the processor boot manager, written from its papers alone, and the
+//! harness that compares it with the first.
+//!
+//! `board`, `bytes`, `outcome`, `record`, `message` and `wait` are the parts; `access` and
+//! `manager` are the list call and the message call over lent memory; `session` replays
+//! recordings. `bench` has the fixed cases, and `harness` makes and compares the random ones.
+
+pub mod access;
+pub mod bench;
+pub mod board;
+pub mod bytes;
+pub mod harness;
+pub mod manager;
+pub mod message;
+pub mod outcome;
+pub mod record;
+pub mod session;
+#[cfg(feature = "static-library")]
+pub mod static_library;
+pub mod wait;

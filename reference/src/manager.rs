@@ -1,0 +1,241 @@
+//! The message call: the outcomes in the order of their tests, the effect of OK, and the answer.
+
+use crate::access::{has_list, is_permitted, is_recovery_master, AccessMemory};
+use crate::board::{can_send, flag_mask, row_of, Class, Word, PROCESSORS};
+use crate::message::{
+    read_order, status_fields, ConfigChange, FlagChange, Header, Order, ANSWER_BYTES, HEADER_BYTES,
+    LONGEST_MESSAGE,
+};
+use crate::outcome::{Outcome, Report};
+use crate::record::{Record, RecordMemory};
+use crate::wait::Wait;
+
+/// Bit of the clear word of set config: the vector fields are neither checked nor stored.
+pub const GEN_IGN_BOOTVECTOR: u32 = 1 << 28;
+
+/// Bits of an R5 boot vector that have to be zero.
+pub const R5_VECTOR_LOW_BITS: u32 = 0x7F;
+
+/// One message as it reaches the call.
+#[derive(Clone, Copy, Debug)]
+pub struct Call<'a> {
+    /// the host that the channel belongs to
+    pub channel: u8,
+    pub message: &'a [u8],
+    /// status words, the first being the status now
+    pub status: &'a [u32],
+}
+
+/// The processor that a message names, and what is remembered of it.
+struct Target<'a> {
+    access: &'a AccessMemory,
+    row: usize,
+    record: Record,
+}
+
+/// How a message ends, before anything is stored or written.
+struct Ending {
+    outcome: Outcome,
+    checks: u32,
+    microseconds: u32,
+    /// the row and its new record; none where nothing changes
+    change: Option<(usize, Record)>,
+    /// what the answer has after its header
+    fields: Vec<u8>,
+}
+
+impl Ending {
+    /// An ending that changes nothing and adds nothing to the answer.
+    fn plain(outcome: Outcome) -> Ending {
+        Ending { outcome, checks: 0, microseconds: 0, change: None, fields: Vec::new() }
+    }
+}
+
+/// Judges and carries out one message. Records change on OK alone. The answer goes to the start of
+/// the buffer, and the bytes beyond it keep their values.
+pub fn handle(
+    access: &AccessMemory,
+    records: &mut RecordMemory,
+    call: &Call,
+    answer: &mut [u8],
+) -> Report {
+    let ending = judge(access, records, call, answer.len());
+    if let Some((row, record)) = ending.change {
+        record.store(records, row);
+    }
+    Report {
+        outcome: ending.outcome,
+        checks: ending.checks,
+        microseconds: ending.microseconds,
+        written: write_answer(call.message, &ending, answer),
+    }
+}
+
+/// Decides the ending. Nothing is changed yet.
+fn judge(access: &AccessMemory, records: &RecordMemory, call: &Call, room: usize) -> Ending {
+    let found = check_lengths(call.message, room).and_then(|()| find_order(access, call));
+    let (row, order) = match found {
+        Ok(found) => found,
+        Err(outcome) => return Ending::plain(outcome),
+    };
+    let target = Target { access, row, record: Record::load(records, row) };
+    if !target.grants(call.channel, &order) {
+        return Ending::plain(Outcome::N7);
+    }
+    target.carry_out(&order, call)
+}
+
+/// R1 and R2.
+fn check_lengths(message: &[u8], room: usize) -> Result<(), Outcome> {
+    if room < ANSWER_BYTES {
+        return Err(Outcome::R1);
+    }
+    if !(HEADER_BYTES..=LONGEST_MESSAGE).contains(&message.len()) {
+        return Err(Outcome::R2);
+    }
+    Ok(())
+}
+
+/// N1 to N6: the row that the message names, and its order. The message has a header.
+fn find_order(access: &AccessMemory, call: &Call) -> Result<(usize, Order), Outcome> {
+    if !has_list(access) {
+        return Err(Outcome::N1);
+    }
+    let header_host = call.message[2];
+    if !can_send(u16::from(call.channel)) || call.channel != header_host {
+        return Err(Outcome::N2);
+    }
+    let (processor, order) = read_order(call.message)?;
+    let row = row_of(processor).ok_or(Outcome::N6)?;
+    Ok((row, order))
+}
+
+impl Target<'_> {
+    /// Whether `sender` has the right to this order; N7 if not.
+    fn grants(&self, sender: u8, order: &Order) -> bool {
+        match order {
+            Order::Request => self.grants_request(sender),
+            Order::Release | Order::Handover { .. } => self.record.is_controlled_by(sender),
+            Order::SetConfig(_) | Order::SetControl(_) => self.record.is_controlled_by(sender),
+            Order::GetStatus | Order::WaitStatus(_) => self.permits(sender),
+        }
+    }
+
+    /// A free processor goes to any permitted host, and any processor to its recovery master.
+    fn grants_request(&self, sender: u8) -> bool {
+        let first = self.record.is_free() && self.permits(sender);
+        first || is_recovery_master(self.access, self.row, u16::from(sender))
+    }
+
+    fn permits(&self, host: u8) -> bool {
+        is_permitted(self.access, self.row, u16::from(host))
+    }
+
+    fn class(&self) -> Class {
+        PROCESSORS[self.row].class
+    }
+
+    /// What a sender with the right to the order gets: N8, R3, N9 or OK.
+    fn carry_out(&self, order: &Order, call: &Call) -> Ending {
+        match order {
+            Order::Request => self.controlled_by(call.channel),
+            Order::Release => self.controlled_by(0),
+            Order::Handover { host } if self.permits(*host) => self.controlled_by(*host),
+            Order::Handover { .. } => Ending::plain(Outcome::N8),
+            Order::SetConfig(change) => self.set(self.with_config(change)),
+            Order::SetControl(flags) => self.set(self.with_control(*flags)),
+            Order::GetStatus => self.get_status(call.status),
+            Order::WaitStatus(wait) => wait_status(wait, call.status),
+        }
+    }
+
+    /// OK with another controller, or with none for 0. The other fields are kept.
+    fn controlled_by(&self, host: u8) -> Ending {
+        self.set(Some(Record { controller: u32::from(host), ..self.record }))
+    }
+
+    /// OK with the new record, or N8 if the operands allow none.
+    fn set(&self, record: Option<Record>) -> Ending {
+        match record {
+            None => Ending::plain(Outcome::N8),
+            Some(record) => {
+                Ending { change: Some((self.row, record)), ..Ending::plain(Outcome::OK) }
+            }
+        }
+    }
+
+    /// The record after set config, or none if an operand is wrong.
+    fn with_config(&self, change: &ConfigChange) -> Option<Record> {
+        let mask = flag_mask(self.class(), Word::Config);
+        let clearable = mask | GEN_IGN_BOOTVECTOR;
+        let config = changed_word(self.record.config, change.flags, mask, clearable)?;
+        if change.flags.clear & GEN_IGN_BOOTVECTOR != 0 {
+            return Some(Record { config, ..self.record });
+        }
+        if self.class() == Class::R5 && change.vector_low & R5_VECTOR_LOW_BITS != 0 {
+            return None;
+        }
+        let ConfigChange { vector_low, vector_high, .. } = *change;
+        Some(Record { vector_low, vector_high, config, ..self.record })
+    }
+
+    /// The record after set control, or none if an operand is wrong.
+    fn with_control(&self, flags: FlagChange) -> Option<Record> {
+        let mask = flag_mask(self.class(), Word::Control);
+        let control = changed_word(self.record.control, flags, mask, mask)?;
+        Some(Record { control, ..self.record })
+    }
+
+    /// R3 without a status word, else OK with the status answer.
+    fn get_status(&self, status: &[u32]) -> Ending {
+        match status.first() {
+            None => Ending::plain(Outcome::R3),
+            Some(&now) => {
+                let processor = PROCESSORS[self.row].number;
+                let fields = status_fields(processor, &self.record, now);
+                Ending { fields, ..Ending::plain(Outcome::OK) }
+            }
+        }
+    }
+}
+
+/// The word with the set bits added and the clear bits removed, or none if a bit is named that may
+/// not be, or is named in both.
+fn changed_word(word: u32, flags: FlagChange, settable: u32, clearable: u32) -> Option<u32> {
+    let named_wrongly = (flags.set & !settable) | (flags.clear & !clearable);
+    let named_twice = flags.set & flags.clear;
+    if named_wrongly != 0 || named_twice != 0 {
+        return None;
+    }
+    Some((word | flags.set) & !flags.clear)
+}
+
+/// N8, R3, N9 or OK. Too few words are R3 even where a run would have ended the wait early.
+fn wait_status(wait: &Wait, status: &[u32]) -> Ending {
+    if !wait.is_valid() {
+        return Ending::plain(Outcome::N8);
+    }
+    if status.len() < usize::from(wait.waits) {
+        return Ending::plain(Outcome::R3);
+    }
+    let (outcome, checks) = match wait.checks_to_first_run(status) {
+        Some(checks) => (Outcome::OK, checks),
+        None => (Outcome::N9, u32::from(wait.waits)),
+    };
+    Ending { checks, microseconds: wait.microseconds(checks), ..Ending::plain(outcome) }
+}
+
+/// Writes ACK or NAK if it is asked for and the outcome has one; gives the bytes written.
+fn write_answer(message: &[u8], ending: &Ending, answer: &mut [u8]) -> usize {
+    let asking = Header::read(message).filter(Header::asks_for_answer);
+    let Some(header) = asking.filter(|_| !ending.outcome.is_silent()) else {
+        return 0;
+    };
+    let mut bytes = header.answer(ending.outcome == Outcome::OK).to_vec();
+    bytes.extend(&ending.fields);
+    answer[..bytes.len()].copy_from_slice(&bytes);
+    bytes.len()
+}
+
+#[cfg(test)]
+mod tests;

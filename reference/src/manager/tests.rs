@@ -1,0 +1,182 @@
+//! The message call over memories that lists cannot leave, and the order of its tests.
+
+use super::*;
+use crate::bench::bytes_of;
+use crate::message::Kind;
+
+const LISTED: AccessMemory = [1, 3, 5, 0, 0, 3, 6, 10, 0, 0, 0, 0, 0, 0, 0, 0, 0];
+
+/// Carries out a message and gives its report, the records and the answer buffer, which held 0xEE.
+fn run(
+    access: AccessMemory,
+    mut records: RecordMemory,
+    text: &str,
+    status: &[u32],
+) -> (Report, RecordMemory, Vec<u8>) {
+    let message = bytes_of(text);
+    let call = Call { channel: message[2], message: &message, status };
+    let mut answer = vec![0xEE; 40];
+    let report = handle(&access, &mut records, &call, &mut answer);
+    (report, records, answer)
+}
+
+fn outcome(access: AccessMemory, records: RecordMemory, text: &str) -> Outcome {
+    run(access, records, text, &[]).0.outcome
+}
+
+fn records_with(words: &[(usize, u32)]) -> RecordMemory {
+    let mut records = [0; 20];
+    for (place, word) in words {
+        records[*place] = *word;
+    }
+    records
+}
+
+/// A wait on processor 1 with every fault at once; each step takes away the first one.
+#[test]
+fn outcomes_come_in_order() {
+    let mut access = LISTED;
+    access[0] = 0;
+    let mut message = vec![0x02, 0xC4, 4, 0, 2, 0, 0, 0, 3, 0, 2, 0, 0];
+    message.resize(61, 0);
+    let (mut channel, mut room, mut status) = (7, 28, vec![]);
+    let mut seen = Vec::new();
+    for step in 0..13 {
+        match step {
+            1 => room = 29,
+            2 => message.truncate(28),
+            3 => access[0] = 1,
+            4 => channel = 4,
+            5 => message[0] = 0x01,
+            6 => message.push(0),
+            7 => message[8] = 1,
+            8 => (channel, message[2]) = (5, 5),
+            9 => (message[9], message[13]) = (2, 1),
+            10 => status = vec![1, 0],
+            11 => status = vec![1, 1],
+            _ => {}
+        }
+        let call = Call { channel, message: &message, status: &status };
+        seen.push(handle(&access, &mut [0; 20], &call, &mut vec![0; room]).outcome);
+    }
+    use Outcome::*;
+    assert_eq!(seen, [R1, R2, N1, N2, N3, N4, N6, N7, N8, R3, N9, OK, OK]);
+}
+
+#[test]
+fn refusals_change_no_record_and_answer_nak() {
+    let held = records_with(&[(0, 5), (3, 0x100), (4, 1)]);
+    let (report, records, answer) = run(LISTED, held, "01 C0 03 09 02 00 00 00 01", &[]);
+    assert_eq!((report.outcome, report.written), (Outcome::N7, 8));
+    assert_eq!(records, held);
+    assert_eq!(answer[..8], bytes_of("01 C0 03 09 00 00 00 00"));
+    assert!(answer[8..].iter().all(|&byte| byte == 0xEE));
+}
+
+#[test]
+fn status_answer_is_29_bytes_and_no_more_is_written() {
+    let held = records_with(&[(1, 0x0403_0201), (2, 5), (3, 0x100), (4, 3)]);
+    let (report, records, answer) = run(LISTED, held, "00 C4 05 01 FF 00 00 00 01", &[0x13, 7]);
+    assert_eq!((report.outcome, report.written), (Outcome::OK, 29));
+    assert_eq!(records, held);
+    let expected = "00 C4 05 01 02 00 00 00 01 01 02 03 04 05 00 00 00 00 01 00 00 03 00 00 00 \
+        13 00 00 00";
+    assert_eq!(answer[..29], bytes_of(expected));
+    assert!(answer[29..].iter().all(|&byte| byte == 0xEE));
+}
+
+#[test]
+fn nothing_is_written_unless_asked_for() {
+    let (report, records, answer) = run(LISTED, [0; 20], "00 C0 05 01 FD FF FF FF 01", &[]);
+    assert_eq!((report.outcome, report.written), (Outcome::OK, 0));
+    assert_eq!(records, records_with(&[(0, 5)]));
+    assert!(answer.iter().all(|&byte| byte == 0xEE));
+}
+
+#[test]
+fn channel_has_to_be_a_board_host_and_the_header_host() {
+    let message = |host: u8| {
+        let mut message = bytes_of("00 C0 00 01 02 00 00 00 01");
+        message[2] = host;
+        message
+    };
+    let judged = |channel, host| {
+        let call = Call { channel, message: &message(host), status: &[] };
+        handle(&LISTED, &mut [0; 20], &call, &mut [0; 29]).outcome
+    };
+    assert_eq!(judged(3, 3), Outcome::OK);
+    assert_eq!([judged(0, 0), judged(7, 7), judged(3, 5), judged(5, 3)], [Outcome::N2; 4]);
+}
+
+#[test]
+fn processor_without_entry_is_open() {
+    let request = "00 C0 0D 01 02 00 00 00 20";
+    assert_eq!(outcome(LISTED, [0; 20], request), Outcome::OK);
+    assert_eq!(outcome(LISTED, records_with(&[(10, 13)]), request), Outcome::N7);
+    let handover = "05 C0 0D 01 02 00 00 00 20";
+    let to = |host: &str| outcome(LISTED, records_with(&[(10, 13)]), &[handover, host].join(" "));
+    assert_eq!([to("0C"), to("0D"), to("00"), to("07")], {
+        use Outcome::{N8, OK};
+        [OK, OK, N8, N8]
+    });
+}
+
+#[test]
+fn odd_memory_is_judged_by_full_words() {
+    let mut access = LISTED;
+    access[1] = 0x103;
+    access[2] = 7;
+    let request = "00 C0 03 01 02 00 00 00 01";
+    assert_eq!(outcome(access, [0; 20], request), Outcome::N7);
+    let release = "01 C0 03 01 02 00 00 00 01";
+    assert_eq!(outcome(LISTED, records_with(&[(0, 0x103)]), release), Outcome::N7);
+    let handover = "05 C0 03 01 02 00 00 00 01 07";
+    assert_eq!(outcome(access, records_with(&[(0, 3)]), handover), Outcome::OK);
+}
+
+#[test]
+fn set_words_add_and_remove_bits() {
+    let held = records_with(&[(10, 3), (13, 0x1000_0009), (14, 0x103)]);
+    let config = "00 C1 03 01 02 00 00 00 20 01 00 00 00 02 00 00 00 06 01 00 00 01 00 00 00";
+    let (report, records, _) = run(LISTED, held, config, &[]);
+    assert_eq!(report.outcome, Outcome::OK);
+    assert_eq!(records[10..15], [3, 1, 2, 0x1000_010E, 0x103]);
+    let control = "01 C1 03 01 02 00 00 00 20 02 00 00 00 01 01 00 00";
+    let (report, records, _) = run(LISTED, held, control, &[]);
+    assert_eq!(report.outcome, Outcome::OK);
+    assert_eq!(records[10..15], [3, 0, 0, 0x1000_0009, 2]);
+}
+
+#[test]
+fn bit_28_keeps_the_vector_and_is_never_stored() {
+    let held = records_with(&[(0, 3), (1, 0x80), (3, 0x1000_0001)]);
+    let config = "00 C1 03 01 02 00 00 00 01 01 00 00 00 02 00 00 00 00 01 00 00 01 00 00 10";
+    let (report, records, _) = run(LISTED, held, config, &[]);
+    assert_eq!(report.outcome, Outcome::OK);
+    assert_eq!(records[..5], [3, 0x80, 0, 0x100, 0]);
+}
+
+#[test]
+fn wrong_flags_are_refused() {
+    let held = records_with(&[(0, 3), (10, 3)]);
+    let control = |processor: &str, words: &str| {
+        outcome(LISTED, held, &["01 C1 03 01 02 00 00 00", processor, words].join(" "))
+    };
+    assert_eq!(control("01", "03 00 00 00 00 00 00 00"), Outcome::OK);
+    assert_eq!(control("01", "04 00 00 00 00 00 00 00"), Outcome::N8);
+    assert_eq!(control("01", "01 00 00 00 01 00 00 00"), Outcome::N8);
+    assert_eq!(control("01", "00 00 00 00 00 00 00 10"), Outcome::N8);
+    assert_eq!(control("20", "00 01 00 00 03 00 00 00"), Outcome::OK);
+    let set_bit_28 = "00 C1 03 01 02 00 00 00 20 00 00 00 00 00 00 00 00 00 00 00 10 00 00 00 00";
+    assert_eq!(outcome(LISTED, held, set_bit_28), Outcome::N8);
+}
+
+#[test]
+fn too_few_words_come_before_an_early_run() {
+    let wait = "01 C4 03 0E 02 00 00 00 01 03 01 00 00 01 00 00 00 00 00 00 00 00 00 00 00 00 00 \
+        00 00";
+    assert_eq!(bytes_of(wait).len(), Kind::WaitStatus.size());
+    let (report, _, _) = run(LISTED, [0; 20], wait, &[1, 1]);
+    assert_eq!((report.outcome, report.checks, report.written), (Outcome::R3, 0, 0));
+    assert_eq!(run(LISTED, [0; 20], wait, &[1, 1, 1]).0.checks, 1);
+}

@@ -1,0 +1,182 @@
+//! Session recordings: tagged fields in, lines out. Memory does not grow with the recording.
+
+use std::io::{self, ErrorKind, Read, Write};
+
+use crate::access::{accept_list, AccessMemory, ListFault, ACCESS_WORDS};
+use crate::bytes::{u16_at, u32_at};
+use crate::manager::{handle, Call};
+use crate::message::ANSWER_BYTES;
+use crate::outcome::Report;
+use crate::record::{RecordMemory, RECORD_WORDS};
+
+/// Tag of a field that holds an access list.
+pub const TAG_LIST: u8 = 1;
+
+/// Tag of a field that holds status words, which stand until the next such field.
+pub const TAG_STATUS: u8 = 2;
+
+/// Tag of a field that holds the channel host and a message.
+pub const TAG_MESSAGE: u8 = 3;
+
+const LONGEST_LIST: usize = 512;
+const LONGEST_STATUS: usize = 1020;
+const LONGEST_MESSAGE_FIELD: usize = 512;
+
+/// What one field of a recording came to.
+#[derive(Clone, Copy, Debug, PartialEq, Eq)]
+pub enum Event {
+    List(Result<(), ListFault>),
+    /// new status words stand; nothing is printed
+    Status,
+    Message(Report, [u8; ANSWER_BYTES]),
+    /// a bad tag or length; nothing follows
+    Bad,
+    /// a field cut off; nothing follows
+    Cut,
+}
+
+/// A recording that is being replayed.
+pub struct Session<R> {
+    input: R,
+    ended: bool,
+    body: Vec<u8>,
+    /// what the lists have left
+    pub access: AccessMemory,
+    /// what the messages have left
+    pub records: RecordMemory,
+    /// the status words that stand
+    pub status: Vec<u32>,
+}
+
+impl<R: Read> Session<R> {
+    /// Starts with no list, all processors free, all words zero and no status words.
+    pub fn new(input: R) -> Session<R> {
+        Session {
+            input,
+            ended: false,
+            body: Vec::new(),
+            access: [0; ACCESS_WORDS],
+            records: [0; RECORD_WORDS],
+            status: Vec::new(),
+        }
+    }
+
+    /// The body of the last field: for a message, the channel host and the message.
+    pub fn body(&self) -> &[u8] {
+        &self.body
+    }
+
+    /// Replays the next field; none once the recording is over.
+    pub fn next_event(&mut self) -> io::Result<Option<Event>> {
+        if self.ended {
+            return Ok(None);
+        }
+        let event = self.replay_field()?;
+        self.ended = matches!(event, None | Some(Event::Bad | Event::Cut));
+        Ok(event)
+    }
+
+    /// Reads and judges tag, then length, then body, and runs the field.
+    fn replay_field(&mut self) -> io::Result<Option<Event>> {
+        let mut tag = [0];
+        if read_up_to(&mut self.input, &mut tag)? == 0 {
+            return Ok(None);
+        }
+        if !(TAG_LIST..=TAG_MESSAGE).contains(&tag[0]) {
+            return Ok(Some(Event::Bad));
+        }
+        let mut length = [0; 2];
+        if read_up_to(&mut self.input, &mut length)? < length.len() {
+            return Ok(Some(Event::Cut));
+        }
+        let length = usize::from(u16_at(&length, 0));
+        if !is_good_length(tag[0], length) {
+            return Ok(Some(Event::Bad));
+        }
+        self.body.resize(length, 0);
+        if read_up_to(&mut self.input, &mut self.body)? < length {
+            return Ok(Some(Event::Cut));
+        }
+        Ok(Some(self.run(tag[0])))
+    }
+
+    /// Runs the field whose body was read.
+    fn run(&mut self, tag: u8) -> Event {
+        match tag {
+            TAG_LIST => Event::List(accept_list(&mut self.access, &self.body)),
+            TAG_STATUS => {
+                self.status.clear();
+                self.status.extend(self.body.chunks_exact(4).map(|word| u32_at(word, 0)));
+                Event::Status
+            }
+            _ => self.run_message(),
+        }
+    }
+
+    fn run_message(&mut self) -> Event {
+        let call = Call { channel: self.body[0], message: &self.body[1..], status: &self.status };
+        let mut answer = [0; ANSWER_BYTES];
+        let report = handle(&self.access, &mut self.records, &call, &mut answer);
+        Event::Message(report, answer)
+    }
+}
+
+/// Whether a field with this good tag may have this length.
+fn is_good_length(tag: u8, length: usize) -> bool {
+    match tag {
+        TAG_LIST => length <= LONGEST_LIST,
+        TAG_STATUS => length <= LONGEST_STATUS && length.is_multiple_of(4),
+        _ => (1..=LONGEST_MESSAGE_FIELD).contains(&length),
+    }
+}
+
+/// Fills the buffer as far as the input goes; gives the bytes read.
+fn read_up_to(input: &mut impl Read, buffer: &mut [u8]) -> io::Result<usize> {
+    let mut filled = 0;
+    while filled < buffer.len() {
+        match input.read(&mut buffer[filled..]) {
+            Ok(0) => break,
+            Ok(count) => filled += count,
+            Err(error) if error.kind() == ErrorKind::Interrupted => {}
+            Err(error) => return Err(error),
+        }
+    }
+    Ok(filled)
+}
+
+/// Writes the line of an event, if it has one.
+pub fn write_line(out: &mut impl Write, event: &Event) -> io::Result<()> {
+    match event {
+        Event::List(Ok(())) => writeln!(out, "list OK"),
+        Event::List(Err(fault)) => writeln!(out, "list {fault:?}"),
+        Event::Status => Ok(()),
+        Event::Message(report, answer) => write_message_line(out, report, answer),
+        Event::Bad => writeln!(out, "bad record"),
+        Event::Cut => writeln!(out, "cut record"),
+    }
+}
+
+/// Outcome, checks, microseconds, and the answer in hexadecimal or a dash.
+fn write_message_line(out: &mut impl Write, report: &Report, answer: &[u8]) -> io::Result<()> {
+    let Report { outcome, checks, microseconds, written } = report;
+    write!(out, "{outcome:?} {checks} {microseconds} ")?;
+    if *written == 0 {
+        write!(out, "-")?;
+    }
+    for byte in &answer[..*written] {
+        write!(out, "{byte:02x}")?;
+    }
+    writeln!(out)
+}
+
+/// Replays a whole recording and writes its lines.
+pub fn replay(input: impl Read, mut out: impl Write) -> io::Result<()> {
+    let mut session = Session::new(input);
+    while let Some(event) = session.next_event()? {
+        write_line(&mut out, &event)?;
+    }
+    out.flush()
+}
+
+#[cfg(test)]
+mod tests;

@@ -1,0 +1,94 @@
+//! What is printed, and where a recording is bad or cut.
+
+use super::*;
+use crate::bench::bench_list;
+use crate::harness::recordings::{field, message_field, status_field};
+
+const GET_STATUS: [u8; 9] = [0, 0xC4, 3, 0, 2, 0, 0, 0, 1];
+
+fn lines(recording: &[u8]) -> String {
+    let mut out = Vec::new();
+    replay(recording, &mut out).unwrap();
+    String::from_utf8(out).unwrap()
+}
+
+/// Gives one byte at a time, as a slow pipe may.
+struct Drip<'a>(&'a [u8]);
+
+impl Read for Drip<'_> {
+    fn read(&mut self, buffer: &mut [u8]) -> io::Result<usize> {
+        let count = buffer.len().min(1);
+        self.0.read(&mut buffer[..count])
+    }
+}
+
+#[test]
+fn empty_recording_prints_nothing() {
+    assert_eq!(lines(&[]), "");
+}
+
+#[test]
+fn status_words_stand_until_the_next_ones() {
+    let message = message_field(3, &GET_STATUS);
+    let fields = [
+        field(TAG_LIST, &bench_list()),
+        message.clone(),
+        status_field(&[0x0403_0201, 9]),
+        message.clone(),
+        message.clone(),
+        status_field(&[]),
+        message,
+    ];
+    let answer = "OK 0 0 00c40300020000000100000000000000000000000000000000\
+        01020304\n";
+    let expected = ["list OK\n", "R3 0 0 -\n", answer, answer, "R3 0 0 -\n"].concat();
+    assert_eq!(lines(&fields.concat()), expected);
+    let mut out = Vec::new();
+    replay(Drip(&fields.concat()), &mut out).unwrap();
+    assert_eq!(out, expected.as_bytes());
+}
+
+#[test]
+fn verdicts_are_printed_by_number() {
+    let fields = [field(TAG_LIST, &[]), field(TAG_LIST, &bench_list()), field(TAG_LIST, &[])];
+    assert_eq!(lines(&fields.concat()), "list A2\nlist OK\nlist A1\n");
+}
+
+#[test]
+fn bad_tags_are_judged_alone() {
+    for tag in [0, 4, 131, 255] {
+        assert_eq!(lines(&[tag]), "bad record\n");
+        assert_eq!(lines(&[&[tag], &field(TAG_LIST, &[])[..]].concat()), "bad record\n");
+    }
+}
+
+#[test]
+fn cut_fields() {
+    assert_eq!(lines(&[3]), "cut record\n");
+    assert_eq!(lines(&[3, 0]), "cut record\n");
+    assert_eq!(lines(&[3, 2, 0, 3]), "cut record\n");
+    assert_eq!(lines(&[3, 1, 0]), "cut record\n");
+    assert_eq!(lines(&[2, 4, 0, 1, 2, 3]), "cut record\n");
+}
+
+#[test]
+fn bad_lengths_are_judged_before_the_body() {
+    let judged = |tag, length: u16| {
+        let low_high = length.to_le_bytes();
+        lines(&[tag, low_high[0], low_high[1]])
+    };
+    let bad = [(1, 513), (2, 1), (2, 1022), (2, 1024), (3, 0), (3, 513), (1, 0xFFFF)];
+    for (tag, length) in bad {
+        assert_eq!(judged(tag, length), "bad record\n", "{tag} {length}");
+    }
+    for (tag, length) in [(1, 512), (2, 1020), (3, 512), (3, 1)] {
+        assert_eq!(judged(tag, length), "cut record\n", "{tag} {length}");
+    }
+}
+
+#[test]
+fn message_may_be_empty_or_long() {
+    assert_eq!(lines(&message_field(3, &[])), "R2 0 0 -\n");
+    assert_eq!(lines(&message_field(3, &[0; 511])), "R2 0 0 -\n");
+    assert_eq!(lines(&message_field(3, &GET_STATUS)), "N1 0 0 00c4030000000000\n");
+}

@@ -1,0 +1,71 @@
+//! The first implementation's two functions, by their C declarations, behind safe wrappers.
+
+use crate::access::{AccessMemory, ACCESS_WORDS};
+use crate::manager::Call;
+use crate::record::{RecordMemory, RECORD_WORDS};
+
+extern "C" {
+    fn pomrozek_list(access: *mut u16, list: *const u8, list_len: usize) -> u32;
+
+    fn pomrozek_message(
+        access: *const u16,
+        records: *mut u32,
+        channel: u8,
+        message: *const u8,
+        message_len: usize,
+        status: *const u32,
+        status_len: usize,
+        answer: *mut u8,
+        answer_len: usize,
+        report: *mut u32,
+    ) -> u32;
+}
+
+// The lengths that the C declarations name.
+const _: () = assert!(ACCESS_WORDS == 17 && RECORD_WORDS == 20);
+
+/// What the message call gave: outcome number, checks, microseconds, bytes written.
+#[derive(Clone, Copy, Debug, PartialEq, Eq)]
+pub struct RawReport {
+    pub outcome: u32,
+    pub checks: u32,
+    pub microseconds: u32,
+    pub written: u32,
+}
+
+/// A number that no report has, so that a field left unwritten is seen.
+const UNWRITTEN: u32 = 0xAAAA_AAAA;
+
+/// The list call: 0 if it is accepted, 1 to 8 for A1 to A8.
+pub fn list(access: &mut AccessMemory, list: &[u8]) -> u32 {
+    // SAFETY: each pointer is valid for the length that the declaration gives or that is passed.
+    unsafe { pomrozek_list(access.as_mut_ptr(), list.as_ptr(), list.len()) }
+}
+
+/// The message call.
+pub fn message(
+    access: &AccessMemory,
+    records: &mut RecordMemory,
+    call: &Call,
+    answer: &mut [u8],
+) -> RawReport {
+    let mut report = [UNWRITTEN; 3];
+    // SAFETY: each pointer is valid for the length that the declaration gives or that is passed,
+    // and what may be written does not overlap anything else.
+    let outcome = unsafe {
+        pomrozek_message(
+            access.as_ptr(),
+            records.as_mut_ptr(),
+            call.channel,
+            call.message.as_ptr(),
+            call.message.len(),
+            call.status.as_ptr(),
+            call.status.len(),
+            answer.as_mut_ptr(),
+            answer.len(),
+            report.as_mut_ptr(),
+        )
+    };
+    let [checks, microseconds, written] = report;
+    RawReport { outcome, checks, microseconds, written }
+}
