@@ -64,6 +64,16 @@ cond-false a b p = rw p
 
 -- ---- tables
 
+-- a line whose test holds answers, and one whose test fails is passed
+pub firstOf-here : {A : Type 0} (other : A) (test : Bool) (a : A) (below : List (Line A)) → test ≡ true → firstOf other ((test gives a) ∷ below) ≡ a
+unfolding firstOf
+firstOf-here other test a below t = rw t
+
+pub firstOf-next : {A : Type 0} (other : A) (test : Bool) (a : A) (below : List (Line A)) → test ≡ false
+    → firstOf other ((test gives a) ∷ below) ≡ firstOf other below
+unfolding firstOf
+firstOf-next other test a below f = rw f
+
 -- below a table's last line the next table is read
 pub firstOf-append : {A : Type 0} (other : A) (above below : List (Line A))
     → firstOf other (above ++ below) ≡ firstOf (firstOf other below) above

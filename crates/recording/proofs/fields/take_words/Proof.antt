@@ -1,0 +1,115 @@
+-- `fields::take_words` meets its contract. The loop's invariant: the first i words are laid. Assumes nothing.
+use Prim.Native.Nat.{ℕ, _+_, _*_, _-_, _/_, _≤_}
+use mathlib.Core.Path.{_≡_, refl, sym, ap, _∙_}
+use mathlib.Core.List.{List}
+use native.Mathlib.Nat.{zero-add}
+use native.Mathlib.Numerals.{add-one}
+use native.Mathlib.Omega.{arith}
+use borrow.Author.Needs.{needs}
+use lib.ListN.{length, getD, set, take, length-set}
+use lib.Seq.{take-all}
+use denote.Ref.{now}
+use Rattle.recording.specs.Lines.{laid}
+use Rattle.recording.proofs.Laid.{laid-none, laid-next}
+use Rattle.recording.proofs.Words.{taken, taken-length, taken-at, word-in-part, laid-start}
+use Rattle.recording.proofs.fields.take_words.Statement.{statement}
+use Rattle.recording.proofs.fields.take_words.Tie as tie
+
+abbrev Inv-loop : tie.InvT-loop
+Inv-loop body memory₀ whole i₀ memory i =
+    (i ≤ length body / 4) × (i ≤ 255) × (memory ≡ laid memory₀ 0 (take i (taken body))) × (length memory ≡ 255) × (length memory₀ ≡ 255)
+
+abbrev μ-loop : tie.MeasureT-loop
+μ-loop body memory₀ whole i₀ memory i = length body / 4 - i
+
+loop-holds : tie.Need-loop-holds Inv-loop μ-loop
+loop-holds c = (omega arith, omega arith, laid-none (now (c .before .before .args .words)) 0, search needs, search needs)
+
+returns : tie.Need-returns Inv-loop μ-loop
+returns c =
+    let a = c .before .before .before .before .before .args in
+    let l = c .before .before .loop in
+    let body = now (a .body) in
+    let all : length (taken body) ≤ l .i = omega (arith, taken-length body) in
+    let size : l .i ≡ length (taken body) = omega (arith, taken-length body) in (
+      size,
+      (omega arith, l .inv .2 ∙ ap (laid (now (a .words)) 0) (take-all (l .i) (taken body) all) ∙ laid-start (now (a .words)) (taken body)),
+    )
+
+mul-u32-at : tie.Need-mul-u32-at Inv-loop μ-loop
+mul-u32-at c = omega arith
+
+sub-u32-at : tie.Need-sub-u32-at Inv-loop μ-loop
+sub-u32-at c = omega arith
+
+part-u32-at-start : tie.Need-part-u32-at-start Inv-loop μ-loop
+part-u32-at-start c = omega arith
+
+part-u32-at-end : tie.Need-part-u32-at-end Inv-loop μ-loop
+part-u32-at-end c = omega arith
+
+u32-at-requires : tie.Need-u32-at-requires Inv-loop μ-loop
+u32-at-requires c κs = search needs
+
+mul-memory : tie.Need-mul-memory Inv-loop μ-loop
+mul-memory c = omega arith
+
+slice-write-memory : tie.Need-slice-write-memory Inv-loop μ-loop
+slice-write-memory c = omega arith
+
+add-i : tie.Need-add-i Inv-loop μ-loop
+add-i c = omega arith
+
+loop-less : tie.Need-loop-less Inv-loop μ-loop
+loop-less c = omega arith
+
+loop-again : tie.Need-loop-again Inv-loop μ-loop
+loop-again c =
+    let a = c .before .before .before .before .before .before .before .args in
+    let l = c .before .before .before .before .loop in
+    let body = now (a .body) in
+    let held = now (a .words) in
+    let word : c .u32-at .result ≡ getD (taken body) (l .i) 0 =
+    c .u32-at .ensures ∙ word-in-part body (4 * l .i) ∙ sym (taken-at body (l .i) (omega arith) (omega arith))
+    in (
+      omega arith,
+      omega arith,
+      ap (λ (x : ℕ). set (l .memory) (l .i) x) word
+          ∙ ap (λ (m : List ℕ). set m (l .i) (getD (taken body) (l .i) 0)) (l .inv .2)
+          ∙ ap (λ (n : ℕ). set (laid held 0 (take (l .i) (taken body))) n (getD (taken body) (l .i) 0)) (sym (zero-add (l .i)))
+          ∙ laid-next held (taken body) 0 (l .i) (omega (arith, taken-length body)) (omega (arith, taken-length body))
+          ∙ ap (λ (n : ℕ). laid held 0 (take n (taken body))) (sym (add-one (l .i))),
+      length-set (l .memory) (l .i) (c .u32-at .result) ∙ l .inv .3,
+      l .inv .4,
+    )
+
+returns-2 : tie.Need-returns-2 Inv-loop μ-loop
+returns-2 c =
+    let a = c .before .before .before .before .args in
+    let l = c .before .loop in
+    let body = now (a .body) in
+    let all : length (taken body) ≤ l .i = omega (arith, taken-length body) in
+    let size : l .i ≡ length (taken body) = omega (arith, taken-length body) in (
+      size,
+      (omega arith, l .inv .2 ∙ ap (laid (now (a .words)) 0) (take-all (l .i) (taken body) all) ∙ laid-start (now (a .words)) (taken body)),
+    )
+
+pub take-words-spec : {M : Type 1} → statement M
+take-words-spec =
+    tie.close
+    (tie.spec
+    Inv-loop
+    μ-loop
+    loop-holds
+    returns
+    mul-u32-at
+    sub-u32-at
+    part-u32-at-start
+    part-u32-at-end
+    u32-at-requires
+    mul-memory
+    slice-write-memory
+    add-i
+    loop-less
+    loop-again
+    returns-2)

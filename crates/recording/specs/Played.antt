@@ -1,0 +1,37 @@
+-- What carrying out a whole field leaves: the line it prints, laid over the start of the lent line, and the memories. Assumes nothing.
+use Prim.Native.Nat.{ℕ, _≤_}
+use mathlib.Core.Path.{_≡_}
+use mathlib.Core.List.{List}
+use lib.ListN.{length, drop, take, replicate}
+use Rattle.rules.specs.Bytes.{byteAt}
+use Rattle.rules.specs.Board.{ours}
+use Rattle.rules.specs.AccessList.{verdictOf}
+use Rattle.rules.specs.Sequence.{Call, message, queryOf, next, Answer, answerTo}
+use Rattle.access.specs.Memory.{listedIn, accessAfter}
+use Rattle.manager.specs.Memory.{recordsIn, stateIn}
+use Rattle.recording.specs.Lines.{listLine, messageLine, laid}
+
+-- a list field: its body is offered
+pub record PlayedList (access body line access′ line′ : List ℕ) (n : ℕ) : Type 0 where
+  pub count : n ≡ length (listLine (verdictOf ours (listedIn access) body))
+  pub text : line′ ≡ laid line 0 (listLine (verdictOf ours (listedIn access) body))
+  pub memory : access′ ≡ accessAfter access body
+  pub short : n ≤ 96
+
+-- a message field: its first byte is the channel host, the rest the message; the answer buffer has 29 bytes
+abbrev pub callIn : List ℕ → List ℕ → Call
+callIn body words = message (byteAt body 0) (drop 1 body) words (replicate 29 0)
+
+abbrev pub answerIn : List ℕ → List ℕ → List ℕ → List ℕ → Answer
+answerIn access memory body words =
+    answerTo ours (stateIn access memory) (queryOf (byteAt body 0) (drop 1 body) words (replicate 29 0))
+
+abbrev pub messageText : List ℕ → List ℕ → List ℕ → List ℕ → List ℕ
+messageText access memory body words =
+    messageLine (answerIn access memory body words .report) (answerIn access memory body words .bytes)
+
+pub record PlayedMessage (access memory body words line memory′ line′ : List ℕ) (n : ℕ) : Type 0 where
+  pub count : n ≡ length (messageText access memory body words)
+  pub text : line′ ≡ laid line 0 (messageText access memory body words)
+  pub records : recordsIn memory′ ≡ next ours (stateIn access memory) (callIn body words) .records
+  pub short : n ≤ 96
