@@ -17,6 +17,7 @@ pub record PlayedList (access body line access′ line′ : List ℕ) (n : ℕ) 
   pub text : line′ ≡ laid line 0 (listLine (verdictOf ours (listedIn access) body))
   pub memory : access′ ≡ accessAfter access body
   pub short : n ≤ 96
+  pub size : length line′ ≡ 96
 
 -- a message field: its first byte is the channel host, the rest the message; the answer buffer has 29 bytes
 abbrev pub callIn : List ℕ → List ℕ → Call
@@ -35,3 +36,4 @@ pub record PlayedMessage (access memory body words line memory′ line′ : List
   pub text : line′ ≡ laid line 0 (messageText access memory body words)
   pub records : recordsIn memory′ ≡ next ours (stateIn access memory) (callIn body words) .records
   pub short : n ≤ 96
+  pub size : length line′ ≡ 96

@@ -64,6 +64,7 @@ returns c =
       text = c .append .ensures .1 ∙ ap (laid (now (c .before .before .before .before .before .before .before .before .args .line)) 0) line;
       memory = told .memory;
       short = omega (arith, c .append .ensures .0, ap length (c .before .before .before .list-text .ensures), list-eight (c .before .before .before .before .verdict-number .result));
+      size = search needs;
     }
 
 pub list-line-spec : {M : Type 1} → statement M

@@ -77,6 +77,7 @@ returns c =
       text = c .write-line .ensures .1 .1 ∙ ap (laid (now (a .line)) 0) line;
       records = told .records;
       short = c .write-line .ensures .1 .0;
+      size = search needs;
     }
 
 pub message-line-spec : {M : Type 1} → statement M
