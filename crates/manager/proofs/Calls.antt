@@ -101,14 +101,15 @@ module _ (a m : List ℕ) (channel : ℕ) (bytes words held : List ℕ) (la : le
   unfolding viewIn
   sees = view-in a m (processorOf bytes) la lm
 
-  pub message-call : (d : Decision) (n : ℕ) (m′ held′ : List ℕ)
+  -- the steps with the row, the record and the status word that the rules name
+  steps : (d : Decision) (n : ℕ) (m′ held′ : List ℕ)
       → d ≡ decisionOf (viewWith a row (recordAt m row)) q
       → m′ ≡ withRecord m row (d .next)
       → n ≡ length (fitted (length held) (answerBytes (d .outcome) bytes (recordAt m row) (getD words 0 0)))
       → held′ ≡ bufferAfter (fitted (length held) (answerBytes (d .outcome) bytes (recordAt m row) (getD words 0 0))) held
       → MessageCall a m channel bytes words held m′ held′ (record { outcome = d .outcome; checks = d .checks; micros = d .micros; written = n })
   unfolding stateIn answerTo next afterMessage reportOf answerOf decisionOf decisionFrom outcomeOf recordAfter
-  message-call d n m′ held′ is stored count kept =
+  steps d n m′ held′ is stored count kept =
       let v = viewWith a row (recordAt m row) in
       let fits : fitted (length held) (answerBytes (d .outcome) bytes (recordAt m row) (getD words 0 0)) ≡ answerOf ours v q =
       ap (λ (x : Decision). fitted (length held) (answerBytes (x .outcome) bytes (recordAt m row) (getD words 0 0))) is ∙ all-fits v q
@@ -134,6 +135,23 @@ module _ (a m : List ℕ) (channel : ℕ) (bytes words held : List ℕ) (la : le
             ∙ ap (λ (l : List ℕ). bufferAfter l held) fits
             ∙ ap (λ (x : View). bufferAfter (answerOf ours x q) held) (sym sees);
       }
+
+  -- and with those that the code found, given that they are the same
+  pub message-call : (row′ : ℕ) (state : Record) (status : ℕ) (d : Decision) (n : ℕ) (m′ held′ : List ℕ)
+      → row′ ≡ row
+      → state ≡ recordAt m row′
+      → status ≡ getD words 0 0
+      → d ≡ decisionOf (viewWith a row′ state) q
+      → m′ ≡ withRecord m row′ (d .next)
+      → n ≡ length (fitted (length held) (answerBytes (d .outcome) bytes state status))
+      → held′ ≡ bufferAfter (fitted (length held) (answerBytes (d .outcome) bytes state status)) held
+      → MessageCall a m channel bytes words held m′ held′ (record { outcome = d .outcome; checks = d .checks; micros = d .micros; written = n })
+  message-call row′ state status d n m′ held′ here loaded first is stored count kept =
+      steps d n m′ held′
+      (rw (loaded, here) at is)
+      (rw here at stored)
+      (rw (loaded, here, first) at count)
+      (rw (loaded, here, first) at kept)
 
 -- ---- the list call
 

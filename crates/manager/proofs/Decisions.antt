@@ -1,18 +1,19 @@
 -- A table of outcomes, row by row: a row whose test holds refuses, one whose test fails is passed, and what is left below the last
--- refusal. Assumes nothing.
+-- refusal; and what the code's tests say of the rows' tests. Assumes nothing.
 use Prim.Native.Nat.{ℕ, _≤_, _<_}
 use mathlib.Core.Path.{_≡_, refl, sym, ap, _∙_}
 use mathlib.Core.Bool.{Bool, true, false, cond, not, _&&_, _||_, and-false}
 use mathlib.Core.List.{List, [], _∷_}
 use mathlib.Core.Logic.{⊎-elim}
 use lib.Dec.{eqb}
-use borrow.Author.Tests.{lt-ltb, le-ltb}
+use borrow.Author.Tests.{lt-ltb, le-ltb, not-true, not-false}
 use Rattle.rules.specs.declared.Kind.{Kind}
 use Rattle.rules.specs.declared.Kind.the-variants.{Request, Release, Handover, SetConfig, SetControl, AuthBoot, GetStatus, WaitStatus, Other}
 use Rattle.rules.specs.declared.Outcome.{Outcome}
 use Rattle.rules.specs.declared.Outcome.the-variants.{R1, R2, N1, N2, N3, N4, N5, N6, N7, N8, R3, N9, Ok}
 use Rattle.rules.specs.Table.{Line, _gives_, firstOf}
-use Rattle.rules.specs.Board.{ours, rows, rowOf, onBoard, classOf}
+use Rattle.rules.specs.Board.{ours, rows, rowOf, onBoard, classAt, classOf}
+use Rattle.rules.specs.AccessList.{Entry}
 use Rattle.rules.specs.Message.{Query, isKind, kindIn, processorOf, waitIn}
 use Rattle.rules.specs.Wait.{ranOut, checksOf, microsOf}
 use Rattle.rules.specs.Outcome.{View, roomTooSmall, lengthWrong, senderWrong, tooShort, hasRight, operandsGood, wordsMissing, waitFailed, outcomeTable, carriedOut, outcomeNumber}
@@ -181,3 +182,20 @@ row-off p h = le-ltb (rowOf ours p) 4 h
 pub row-on : (p : ℕ) → rowOf ours p < 4 → onBoard ours p ≡ true
 unfolding onBoard rows ours
 row-on p h = lt-ltb (rowOf ours p) 4 h
+
+-- the class that the code finds by the row is the class of the processor
+pub operands-by-row : (k : Kind) (e : Entry) (row : ℕ) (m : List ℕ) → row ≡ rowOf ours (processorOf m)
+    → operandsGood k ours e (classAt ours row) m ≡ operandsGood k ours e (classOf ours (processorOf m)) m
+unfolding classOf
+operands-by-row k e row m here = ap (λ (n : ℕ). operandsGood k ours e (classAt ours n) m) here
+
+-- ---- what a test of x says of the t that x is
+
+pub told : {A : Type 0} {x t b : A} → x ≡ t → x ≡ b → t ≡ b
+told is h = sym is ∙ h
+
+pub told-true : {x t : Bool} → x ≡ t → not x ≡ false → t ≡ true
+told-true is h = sym is ∙ not-false _ h
+
+pub told-false : {x t : Bool} → x ≡ t → not x ≡ true → t ≡ false
+told-false is h = sym is ∙ not-true _ h

@@ -9,15 +9,15 @@ use wire::byte_at;
 use wire::u32_at;
 
 // The record with `host` as its controller, 0 for none; the other fields are kept.
-fn held_by(host: u8, state: Record) -> Record
-    ensures { λ r. ⌜ r ≡ heldBy host state ⌝ }
+fn held_by(host: u8, kept: Record) -> Record
+    ensures { λ r. ⌜ r ≡ heldBy host kept ⌝ }
 {
     Record {
         controller: host as u32,
-        low: state.low,
-        high: state.high,
-        config: state.config,
-        control: state.control,
+        low: kept.low,
+        high: kept.high,
+        config: kept.config,
+        control: kept.control,
     }
 }
 

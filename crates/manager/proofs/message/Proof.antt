@@ -1,5 +1,5 @@
 -- `manager::message` meets its contract: its steps, over the whole memories lent, are those of the message call. Assumes nothing.
-use mathlib.Core.Path.{_≡_, sym, ap, _∙_}
+use mathlib.Core.Path.{_≡_, ap, _∙_}
 use lib.ListN.{length}
 use denote.Ref.{now}
 use Rattle.rules.specs.Board.{ours, rowOf}
@@ -38,13 +38,16 @@ returns c =
     let la : length (now (a .access)) ≡ 17 = search needs in
     let lm : length (now (a .records)) ≡ 20 = search needs in
     let row = c .before .before .before .before .before .before .before .before .before .before .row-of .ensures ∙ ap (rowOf ours) (c .before .before .before .before .before .before .before .before .before .before .before .byte-at .ensures) in
-    let state = c .before .before .before .before .before .before .before .before .load .ensures in
     message-call (now (a .access)) (now (a .records)) (a .channel) (now (a .message)) (now (a .status)) (now (a .answer)) la lm
+    (c .before .before .before .before .before .before .before .before .before .before .row-of .result) (c .before .before .before .before .before .before .before .before .load .result) (c .before .before .before .status-now .result)
     (c .before .before .before .before .before .before .before .decide .result) (c .before .before .write-answer .result) _ _
-    (rw (state, row) at (c .before .before .before .before .before .before .before .decide .ensures))
-    (rw row at (c .before .before .before .before .before .store .ensures))
-    (rw (state, row, c .before .before .before .status-now .ensures) at (c .before .before .write-answer .ensures .0))
-    (rw (state, row, c .before .before .before .status-now .ensures) at (c .before .before .write-answer .ensures .1))
+    row
+    (c .before .before .before .before .before .before .before .before .load .ensures)
+    (c .before .before .before .status-now .ensures)
+    (c .before .before .before .before .before .before .before .decide .ensures)
+    (c .before .before .before .before .before .store .ensures)
+    (c .before .before .write-answer .ensures .0)
+    (c .before .before .write-answer .ensures .1)
 
 pub message-spec : {M : Type 1} → statement M
 message-spec =

@@ -16,10 +16,24 @@ byte-at-requires-4 : tie.Need-byte-at-requires-4
 byte-at-requires-4 c κs = search needs
 
 returns : tie.Need-returns
-returns c = rw (c .if1 .taken) (cc)
+returns c =
+    rw (
+      c .if1 .taken,
+      c .before .before .before .before .byte-at .ensures,
+      c .before .before .before .byte-at2 .ensures,
+      c .before .before .byte-at3 .ensures,
+      c .before .byte-at4 .ensures,
+    )
 
 returns-2 : tie.Need-returns-2
-returns-2 c = rw (c .if1 .left) (cc)
+returns-2 c =
+    rw (
+      c .if1 .left,
+      c .before .before .before .before .byte-at .ensures,
+      c .before .before .before .byte-at2 .ensures,
+      c .before .before .byte-at3 .ensures,
+      c .before .byte-at4 .ensures,
+    )
 
 pub header-spec : {M : Type 1} → statement M
 header-spec =

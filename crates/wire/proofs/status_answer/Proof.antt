@@ -1,5 +1,4 @@
 -- `wire::status_answer` meets its contract: the fields that it reads are those of the answer. Assumes nothing.
-use mathlib.Core.Path.{_∙_}
 use borrow.Author.Needs.{needs}
 use Rattle.wire.proofs.status_answer.Statement.{statement}
 use Rattle.wire.proofs.status_answer.Tie as tie
@@ -23,7 +22,14 @@ laid-out-requires : tie.Need-laid-out-requires
 laid-out-requires c κs = search needs
 
 returns : tie.Need-returns
-returns c = c .laid-out .ensures ∙ (cc)
+returns c =
+    rw (
+      c .before .before .before .before .before .byte-at .ensures,
+      c .before .before .before .before .byte-at2 .ensures,
+      c .before .before .before .byte-at3 .ensures,
+      c .before .before .byte-at4 .ensures,
+      c .before .byte-at5 .ensures,
+    ) at (c .laid-out .ensures)
 
 pub status-answer-spec : {M : Type 1} → statement M
 status-answer-spec =

@@ -30,7 +30,17 @@ u32-at-requires-4 c κs = search needs
 
 returns : tie.Need-returns
 unfolding waitIn
-returns c = cc
+returns c =
+    rw (
+      c .before .before .before .before .before .before .before .byte-at .ensures,
+      c .before .before .before .before .before .before .byte-at2 .ensures,
+      c .before .before .before .before .before .byte-at3 .ensures,
+      c .before .before .before .before .byte-at4 .ensures,
+      c .before .before .before .u32-at .ensures,
+      c .before .before .u32-at2 .ensures,
+      c .before .u32-at3 .ensures,
+      c .u32-at4 .ensures,
+    )
 
 pub wait-in-spec : {M : Type 1} → statement M
 wait-in-spec =

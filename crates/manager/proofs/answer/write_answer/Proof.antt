@@ -2,7 +2,7 @@
 use Prim.Native.Nat.{ℕ}
 use mathlib.Core.Path.{_≡_, refl, sym, ap, _∙_}
 use mathlib.Core.List.{List, []}
-use borrow.Author.Tests.{lt-ltb, le-ltb, not-true, not-false}
+use borrow.Author.Tests.{lt-ltb, le-ltb}
 use mathlib.Core.Bool.{cond}
 use lib.Dec.{leb}
 use lib.ListN.{length}
@@ -11,6 +11,7 @@ use Rattle.rules.specs.Outcome.{carriedOut, silent}
 use Rattle.rules.specs.Answer.{answerBytes, bufferAfter}
 use Rattle.manager.specs.Decision.{fitted}
 use Rattle.manager.proofs.Answers.{fitted-length, fitted-buffer, fitted-none, bytes-unasked, bytes-silent, bytes-status, bytes-header}
+use Rattle.manager.proofs.Decisions.{told-true, told-false}
 use borrow.Author.Needs.{needs}
 use Rattle.manager.proofs.answer.write_answer.Statement.{statement}
 use Rattle.manager.proofs.answer.write_answer.Tie as tie
@@ -36,7 +37,7 @@ answer-asked-requires c κs = search needs
 returns : tie.Need-returns
 returns c =
     let a = c .before .before .before .before .args in
-    let none = bytes-unasked (a .outcome) (now (a .message)) (a .state) (a .status) (sym (c .before .answer-asked .ensures) ∙ not-true _ (c .if1 .taken)) in
+    let none = bytes-unasked (a .outcome) (now (a .message)) (a .state) (a .status) (told-false (c .before .answer-asked .ensures) (c .if1 .taken)) in
     wrote-none _ _ none
 
 outcome-number-requires : tie.Need-outcome-number-requires
@@ -45,7 +46,7 @@ outcome-number-requires c κs = search needs
 returns-2 : tie.Need-returns-2
 returns-2 c =
     let a = c .before .before .before .before .before .before .args in
-    let asked = sym (c .before .before .before .answer-asked .ensures) ∙ not-false _ (c .before .before .if1 .left) in
+    let asked = told-true (c .before .before .before .answer-asked .ensures) (c .before .before .if1 .left) in
     let none = bytes-silent (a .outcome) (now (a .message)) (a .state) (a .status) asked (rw (c .before .outcome-number .ensures) at (c .if2 .taken)) in
     wrote-none _ _ none
 
@@ -74,7 +75,7 @@ returns-3 : tie.Need-returns-3
 unfolding carriedOut
 returns-3 c =
     let a = c .before .before .before .before .before .before .before .before .before .before .before .before .before .before .before .before .args in
-    let asked = sym (c .before .before .before .before .before .before .before .before .before .before .before .before .before .answer-asked .ensures) ∙ not-false _ (c .before .before .before .before .before .before .before .before .before .before .before .before .if1 .left) in
+    let asked = told-true (c .before .before .before .before .before .before .before .before .before .before .before .before .before .answer-asked .ensures) (c .before .before .before .before .before .before .before .before .before .before .before .before .if1 .left) in
     let status = rw (c .before .before .before .before .before .before .before .before .before .before .before .outcome-number .ensures, c .before .before .before .before .before .before .before .type-number .ensures, c .before .before .before .before .before .before .before .before .kind-of .ensures, c .before .before .before .before .before .before .before .before .before .u16-at .ensures) at (c .before .before .before .before .before .before .if3 .taken) in
     let bytes = bytes-status (a .outcome) (now (a .message)) (a .state) (a .status) asked status in
     wrote (now (a .answer)) _ _ _ _ (c .before .before .before .before .before .status-answer .ensures ∙ sym bytes) (c .before .before .put .ensures)
@@ -95,7 +96,7 @@ returns-4 : tie.Need-returns-4
 unfolding carriedOut silent
 returns-4 c =
     let a = c .before .before .before .before .before .before .before .before .before .before .before .before .before .before .before .before .args in
-    let asked = sym (c .before .before .before .before .before .before .before .before .before .before .before .before .before .answer-asked .ensures) ∙ not-false _ (c .before .before .before .before .before .before .before .before .before .before .before .before .if1 .left) in
+    let asked = told-true (c .before .before .before .before .before .before .before .before .before .before .before .before .before .answer-asked .ensures) (c .before .before .before .before .before .before .before .before .before .before .before .before .if1 .left) in
     let plain = rw (c .before .before .before .before .before .before .before .before .before .before .before .outcome-number .ensures, c .before .before .before .before .before .before .before .type-number .ensures, c .before .before .before .before .before .before .before .before .kind-of .ensures, c .before .before .before .before .before .before .before .before .before .u16-at .ensures) at (c .before .before .before .before .before .before .if3 .left) in
     let loud = le-ltb 100 _ (rw (c .before .before .before .before .before .before .before .before .before .before .before .outcome-number .ensures) at (c .before .before .before .before .before .before .before .before .before .before .if2 .left)) in
     let bytes = bytes-header (a .outcome) (now (a .message)) (a .state) (a .status) asked loud plain in

@@ -1,9 +1,9 @@
 -- `decide::by_kind` meets its contract: each test is a row of the table from N3 on. Assumes nothing.
-use mathlib.Core.Path.{_≡_, sym, ap, _∙_}
+use mathlib.Core.Path.{_≡_, sym, _∙_}
 use borrow.Author.Tests.{lt-ltb, le-ltb, eq-eqb, ne-eqb}
 use denote.Ref.{now}
 use Rattle.manager.specs.Decision.{viewWith, asked}
-use Rattle.manager.proofs.Decisions.{kind-N3, kind-N4, kind-N5, kind-N6, kind-rule, row-off, row-on}
+use Rattle.manager.proofs.Decisions.{kind-N3, kind-N4, kind-N5, kind-N6, kind-rule, row-off, row-on, told}
 use borrow.Author.Needs.{needs}
 use Rattle.manager.proofs.decide.by_kind.Statement.{statement}
 use Rattle.manager.proofs.decide.by_kind.Tie as tie
@@ -19,7 +19,7 @@ returns c =
     let a = c .before .before .before .before .before .before .args in
     let v = viewWith (now (a .access)) (a .row) (a .state) in
     let q = asked (a .channel) (now (a .message)) (now (a .status)) (a .room) in
-    let unknown = eq-eqb _ 0 (sym (c .before .before .type-number .ensures) ∙ c .before .if1 .taken) in
+    let unknown = eq-eqb _ 0 (told (c .before .before .type-number .ensures) (c .before .if1 .taken)) in
     c .refused .ensures ∙ sym (kind-N3 (a .kind) v q unknown)
 
 size-of-requires : tie.Need-size-of-requires
@@ -47,7 +47,7 @@ returns-3 c =
     let q = asked (a .channel) (now (a .message)) (now (a .status)) (a .room) in
     let known = ne-eqb _ 0 (λ e. c .before .before .before .before .if1 .left (c .before .before .before .before .before .type-number .ensures ∙ e)) in
     let whole = le-ltb _ _ (rw (c .before .before .before .size-of .ensures) at (c .before .before .if2 .left)) in
-    let auth = eq-eqb _ 0xC120 (sym (c .before .before .before .before .before .type-number .ensures) ∙ c .before .if3 .taken) in
+    let auth = eq-eqb _ 0xC120 (told (c .before .before .before .before .before .type-number .ensures) (c .before .if3 .taken)) in
     c .refused3 .ensures ∙ sym (kind-N5 (a .kind) v q known whole auth)
 
 refused-requires-4 : tie.Need-refused-requires-4

@@ -1,9 +1,9 @@
 -- `decide::decide` meets its contract: each test is a row of the outcome table. Assumes nothing.
-use mathlib.Core.Path.{_≡_, sym, ap, _∙_}
-use borrow.Author.Tests.{lt-ltb, le-ltb, not-true, not-false}
+use mathlib.Core.Path.{_≡_, sym, _∙_}
+use borrow.Author.Tests.{lt-ltb, le-ltb}
 use denote.Ref.{now}
 use Rattle.manager.specs.Decision.{viewWith, asked}
-use Rattle.manager.proofs.Decisions.{call-R1, call-R2, call-N1, call-N2, call-kind}
+use Rattle.manager.proofs.Decisions.{call-R1, call-R2, call-N1, call-N2, call-kind, told, told-true, told-false}
 use borrow.Author.Needs.{needs}
 use Rattle.manager.proofs.decide.decide.Statement.{statement}
 use Rattle.manager.proofs.decide.decide.Tie as tie
@@ -41,7 +41,7 @@ returns-3 c =
     let v = viewWith (now (a .access)) (a .row) (a .state) in
     let q = asked (a .channel) (now (a .message)) (now (a .status)) (a .room) in
     let room = le-ltb _ _ (c .before .before .before .before .if1 .left) in
-    let none = sym (c .before .before .is-listed .ensures) ∙ not-true _ (c .before .if3 .taken) in
+    let none = told-false (c .before .before .is-listed .ensures) (c .before .if3 .taken) in
     c .refused3 .ensures ∙ sym (call-N1 v q room (c .before .before .before .if2 .left) none)
 
 sender-wrong-requires : tie.Need-sender-wrong-requires
@@ -56,8 +56,8 @@ returns-4 c =
     let v = viewWith (now (a .access)) (a .row) (a .state) in
     let q = asked (a .channel) (now (a .message)) (now (a .status)) (a .room) in
     let room = le-ltb _ _ (c .before .before .before .before .before .before .if1 .left) in
-    let listed = sym (c .before .before .before .before .is-listed .ensures) ∙ not-false _ (c .before .before .before .if3 .left) in
-    let wrong = sym (c .before .before .sender-wrong .ensures) ∙ c .before .if4 .taken in
+    let listed = told-true (c .before .before .before .before .is-listed .ensures) (c .before .before .before .if3 .left) in
+    let wrong = told (c .before .before .sender-wrong .ensures) (c .before .if4 .taken) in
     c .refused4 .ensures ∙ sym (call-N2 v q room (c .before .before .before .before .before .if2 .left) listed wrong)
 
 u16-at-requires : tie.Need-u16-at-requires
@@ -75,8 +75,8 @@ returns-5 c =
     let v = viewWith (now (a .access)) (a .row) (a .state) in
     let q = asked (a .channel) (now (a .message)) (now (a .status)) (a .room) in
     let room = le-ltb _ _ (c .before .before .before .before .before .before .before .before .if1 .left) in
-    let listed = sym (c .before .before .before .before .before .before .is-listed .ensures) ∙ not-false _ (c .before .before .before .before .before .if3 .left) in
-    let sender = sym (c .before .before .before .before .sender-wrong .ensures) ∙ c .before .before .before .if4 .left in
+    let listed = told-true (c .before .before .before .before .before .before .is-listed .ensures) (c .before .before .before .before .before .if3 .left) in
+    let sender = told (c .before .before .before .before .sender-wrong .ensures) (c .before .before .before .if4 .left) in
     (rw (c .before .kind-of .ensures, c .before .before .u16-at .ensures) at (c .by-kind .ensures))
     ∙ sym (call-kind v q room (c .before .before .before .before .before .before .before .if2 .left) listed sender)
 

@@ -53,10 +53,10 @@ mul-records-5 : tie.Need-mul-records-5
 mul-records-5 c = search needs
 
 slice-write-records-5 : tie.Need-slice-write-records-5
-slice-write-records-5 c = search needs
+slice-write-records-5 c = simp length-set (omega arith)
 
 same-length : tie.Need-same-length
-same-length c = search needs
+same-length c = simp length-set
 
 returns : tie.Need-returns
 unfolding withRecord
