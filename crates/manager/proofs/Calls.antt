@@ -28,12 +28,12 @@ use Rattle.rules.proofs.Tests.{decide}
 use Rattle.access.specs.Memory.{byRow, listedIn, entriesIn, accessAfter}
 use Rattle.access.proofs.Memory.{after-listed, after-entries}
 use Rattle.manager.specs.declared.Decision.{Decision}
-use Rattle.manager.specs.Memory.{recordAt, recordsIn, stateIn, viewIn, withRecord}
+use Rattle.records.specs.Memory.{recordAt, recordsIn, stateIn, viewIn, withRecord}
 use Rattle.manager.specs.Decision.{viewWith, asked, decisionFrom, decisionOf, fitted}
 use Rattle.manager.specs.Calls.{MessageCall}
 use Rattle.manager.proofs.Answers.{fitted-none, bytes-unasked, bytes-silent}
 use Rattle.manager.proofs.Decisions.{call-R1}
-use Rattle.manager.proofs.LentMemory.{records-store, records-kept, view-in}
+use Rattle.records.proofs.LentMemory.{records-store, records-kept, view-in}
 
 -- ---- every answer fits
 

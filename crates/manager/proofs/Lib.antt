@@ -1,5 +1,4 @@
 -- What the proofs of this crate share.
 pub mod Decisions
 pub mod Answers
-pub mod LentMemory
 pub mod Calls

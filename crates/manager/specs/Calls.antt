@@ -9,7 +9,7 @@ use Rattle.rules.specs.Board.{ours}
 use Rattle.rules.specs.Answer.{bufferAfter}
 use Rattle.rules.specs.Sequence.{list, message, queryOf, next, answerTo}
 use Rattle.access.specs.Memory.{listedIn, accessAfter}
-use Rattle.manager.specs.Memory.{recordsIn, stateIn}
+use Rattle.records.specs.Memory.{recordsIn, stateIn}
 
 -- for any content of the access memory, and any list: the verdict and the memory afterwards are what the rules give; read with any
 -- records, that memory holds the rules' next state

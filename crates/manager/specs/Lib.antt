@@ -1,4 +1,3 @@
--- What the lent memory holds, and what a message call decides.
-pub mod Memory
+-- What a message call decides, and what the two calls promise.
 pub mod Decision
 pub mod Calls

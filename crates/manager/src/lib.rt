@@ -2,18 +2,14 @@
 // lends. Memory that is all zeros is a fresh manager, and any content is a state.
 mod answer;
 mod decide;
-mod effect;
-mod memory;
-mod operands;
-mod rights;
 
 ghost use Rattle.manager.specs.Calls.{ListCall, MessageCall};
 use answer::status_now;
 use answer::write_answer;
 use board::row_of;
 use decide::decide;
-use memory::load;
-use memory::store;
+use records::load;
+use records::store;
 use rules::Outcome;
 use rules::Record;
 use rules::Report;

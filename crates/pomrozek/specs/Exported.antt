@@ -9,7 +9,7 @@ use Rattle.rules.specs.Outcome.{outcomeNumber}
 use Rattle.rules.specs.Answer.{bufferAfter}
 use Rattle.rules.specs.Sequence.{message, queryOf, next, Answer, answerTo}
 use Rattle.access.specs.Memory.{listedIn, accessAfter}
-use Rattle.manager.specs.Memory.{recordsIn, stateIn}
+use Rattle.records.specs.Memory.{recordsIn, stateIn}
 
 pub record ExportedList (access bytes access′ : List ℕ) (r : ℕ) : Type 0 where
   pub verdict : r ≡ verdictNumber (verdictOf ours (listedIn access) bytes)

@@ -8,7 +8,7 @@ use Rattle.rules.specs.Board.{ours}
 use Rattle.rules.specs.AccessList.{verdictOf}
 use Rattle.rules.specs.Sequence.{Call, message, queryOf, next, Answer, answerTo}
 use Rattle.access.specs.Memory.{listedIn, accessAfter}
-use Rattle.manager.specs.Memory.{recordsIn, stateIn}
+use Rattle.records.specs.Memory.{recordsIn, stateIn}
 use Rattle.recording.specs.Lines.{listLine, messageLine, laid}
 
 -- a list field: its body is offered

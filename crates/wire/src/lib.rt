@@ -11,6 +11,7 @@ ghost use Rattle.rules.specs.Bytes.{byteAt, u16At, u32At, u32Bytes};
 ghost use Rattle.rules.specs.Message.{kindOf, typeNumber, sizeOf, answerAsked, waitIn};
 ghost use Rattle.rules.specs.AccessList.{verdictNumber};
 ghost use Rattle.rules.specs.Outcome.{outcomeNumber};
+ghost use Rattle.rules.specs.Flags.{keepsVector};
 ghost use Rattle.rules.specs.Answer.{headerWith, ack, statusBytes, bufferAfter};
 use rules::Kind;
 use rules::Outcome;
@@ -161,6 +162,13 @@ pub fn answer_asked(message: &[u8]) -> bool
     ensures { λ r. ⌜ r ≡ answerAsked (now (message .entry)) ⌝ }
 {
     u32_at(message, 4) / 2 % 2 == 1
+}
+
+// Whether the clear word of set config says that the vector is neither checked nor stored: bit 28.
+pub fn keeps_vector(clear: u32) -> bool
+    ensures { λ r. ⌜ r ≡ keepsVector clear ⌝ }
+{
+    clear / 0x10000000 % 2 == 1
 }
 
 // The operands of a wait.

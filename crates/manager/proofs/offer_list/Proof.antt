@@ -3,7 +3,7 @@ use mathlib.Core.Path.{_≡_, ap, _∙_}
 use mathlib.Core.List.{List}
 use Prim.Native.Nat.{ℕ}
 use denote.Ref.{now}
-use Rattle.manager.specs.Memory.{stateIn}
+use Rattle.records.specs.Memory.{stateIn}
 use Rattle.manager.proofs.Calls.{list-state}
 use borrow.Author.Needs.{needs}
 use Rattle.manager.proofs.offer_list.Statement.{statement}

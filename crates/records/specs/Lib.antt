@@ -1,0 +1,2 @@
+-- What the lent record memory holds.
+pub mod Memory

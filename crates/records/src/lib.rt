@@ -1,0 +1,9 @@
+// The processors' records: loaded from the lent record memory, changed by the effect of OK, and stored
+// again, one record by value.
+mod effects;
+mod memory;
+
+pub use effects::effect;
+pub use effects::new_word;
+pub use memory::load;
+pub use memory::store;

@@ -1,0 +1,99 @@
+/*
+ * The worked session of the bench: a list, then three messages. It prints
+ *
+ *     list OK
+ *     OK 0 0 00c0030702000000
+ *     N7 0 0 00c0050100000000
+ *     OK 0 0 -
+ *
+ * Build it from the repository's root, after `rt staticlib pomrozek`:
+ *
+ *     cc -std=c99 -Wall -Wextra -Werror -pedantic -O2 -Iinclude examples/bench.c \
+ *         target/staticlib/libpomrozek.a -o bench
+ */
+#include <stdio.h>
+
+#include "pomrozek.h"
+
+/* The manager. Static memory is all zeros, which is a fresh one. */
+static uint16_t access_memory[POMROZEK_ACCESS_WORDS];
+static uint32_t record_memory[POMROZEK_RECORD_WORDS];
+
+/* The bench list. Processor 1: master 3, secondary 5. Processor 2: master 3, secondaries 6, 10. */
+static const uint8_t bench_list[POMROZEK_LIST_BYTES] = {
+    0xEA, 0xF1, 0x24, 0x01,                               /* magic, size 292 */
+    0x01, 0x03, 0x00, 0x05, 0x00, 0x00, 0x00, 0x00, 0x00, /* entry 0 */
+    0x02, 0x03, 0x00, 0x06, 0x00, 0x0A, 0x00, 0x00, 0x00  /* entry 1; the other 30 are unused */
+};
+
+/* Type, host, sequence, flags (2 asks for an answer), processor. */
+static const uint8_t request_by_3[] = {0x00, 0xC0, 3, 7, 2, 0, 0, 0, 1};
+static const uint8_t request_by_5[] = {0x00, 0xC0, 5, 1, 2, 0, 0, 0, 1};
+static const uint8_t release_by_3[] = {0x01, 0xC0, 3, 8, 0, 0, 0, 0, 1};
+
+/* Prints a verdict's name: OK, or A1 to A8. */
+static void print_verdict(uint32_t verdict)
+{
+    if (verdict == POMROZEK_ACCEPTED)
+        printf("OK");
+    else
+        printf("A%u", (unsigned)verdict);
+}
+
+/* Prints an outcome's name: OK, N1 to N9, or R1 to R3 for the numbers above 100. */
+static void print_outcome(uint32_t outcome)
+{
+    if (outcome == POMROZEK_OK)
+        printf("OK");
+    else if (outcome > 100)
+        printf("R%u", (unsigned)(outcome - 100));
+    else
+        printf("N%u", (unsigned)outcome);
+}
+
+/* Prints the answer's bytes in hexadecimal, or a dash where none were written. */
+static void print_answer(const uint8_t *answer, uint32_t written)
+{
+    uint32_t i;
+
+    if (written == 0)
+        printf("-");
+    for (i = 0; i < written; i++)
+        printf("%02x", (unsigned)answer[i]);
+}
+
+/* Offers the list and prints the verdict. */
+static void offer(const uint8_t *list, size_t length)
+{
+    printf("list ");
+    print_verdict(pomrozek_list(access_memory, list, length));
+    printf("\n");
+}
+
+/*
+ * Sends one message from the queue of host `channel`, and prints outcome, checks, microseconds and
+ * answer. These messages need no status word: the pointer is valid, the length 0.
+ */
+static void deliver(uint8_t channel, const uint8_t *message, size_t length)
+{
+    static const uint32_t status[1] = {0};
+    uint8_t answer[POMROZEK_ANSWER_BYTES] = {0};
+    uint32_t report[POMROZEK_REPORT_WORDS];
+    uint32_t outcome;
+
+    outcome = pomrozek_message(access_memory, record_memory, channel, message, length, status, 0,
+                               answer, sizeof answer, report);
+    print_outcome(outcome);
+    printf(" %u %u ", (unsigned)report[POMROZEK_CHECKS], (unsigned)report[POMROZEK_MICROS]);
+    print_answer(answer, report[POMROZEK_WRITTEN]);
+    printf("\n");
+}
+
+int main(void)
+{
+    offer(bench_list, sizeof bench_list);
+    deliver(3, request_by_3, sizeof request_by_3); /* free and permitted: granted */
+    deliver(5, request_by_5, sizeof request_by_5); /* held by 3, and 5 is no recovery master: N7 */
+    deliver(3, release_by_3, sizeof release_by_3); /* carried out; flag bit 1 is clear: no answer */
+    return 0;
+}
