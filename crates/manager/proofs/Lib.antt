@@ -1,4 +1,4 @@
 -- What the proofs of this crate share.
 pub mod Decisions
 pub mod Answers
-pub mod Calls
+pub mod TwoCalls

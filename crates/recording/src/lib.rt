@@ -2,7 +2,6 @@
 // line that it prints. The rules are specs/Fields.antt and specs/Lines.antt.
 mod fields;
 mod lines;
-mod text;
 
 pub use fields::find;
 pub use fields::take_words;

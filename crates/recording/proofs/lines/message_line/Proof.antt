@@ -12,7 +12,7 @@ use Rattle.rules.specs.declared.Outcome.{Outcome}
 use Rattle.rules.specs.declared.Outcome.the-variants.{R1, R2, N1, N2, N3, N4, N5, N6, N7, N8, R3, N9, Ok}
 use Rattle.rules.specs.declared.Report.{Report}
 use Rattle.rules.specs.Outcome.{outcomeNumber}
-use Rattle.manager.proofs.Calls.{written-short}
+use Rattle.manager.proofs.TwoCalls.{written-short}
 use Rattle.recording.specs.Lines.{laid}
 use Rattle.recording.proofs.Messages.{line-is}
 use borrow.Author.Needs.{needs}
