@@ -99,6 +99,26 @@ fn finish(out: &[u8], used: usize, last: &[u8]) -> bool {
     false
 }
 
+// Ends the playing of a buffer where no whole field follows: the lines that are gathered are written,
+// and a bad record ends the session.
+fn stopped(found: Found, at: usize, words: usize, out: &[u8], used: usize) -> Progress
+    ensures { λ r. ⌜ (r .at ≡ at) × (r .words ≡ words) ⌝ }
+{
+    if let Found::Bad = found {
+        finish(out, used, b"bad record\n");
+        return Progress {
+            at,
+            words,
+            goes: false,
+        };
+    }
+    Progress {
+        at,
+        words,
+        goes: finish(out, used, b""),
+    }
+}
+
 // Plays every whole field of `input`. Lines are gathered in `output` and written when it is full and
 // at the end. A bad record and a write that fails end the session.
 fn play(
@@ -117,48 +137,26 @@ fn play(
     let mut used = 0;
     let mut stand = count;
     loop {
-        match find(input, at) {
-            Found::Whole(tag, length) => {
-                let start = at + 3;
-                let end = start + length as usize;
-                let body = &input[start..end];
-                let played = play_field(access, records, words, stand, tag, body, &mut line);
-                let n = played.line;
-                let gathered = gather(output, used, &line[..n]);
-                if !gathered.good {
-                    return Progress {
-                        at,
-                        words: stand,
-                        goes: false,
-                    };
-                }
-                used = gathered.used;
-                stand = played.words;
-                at = end;
-            }
-            Found::Bad => {
-                finish(output, used, b"bad record\n");
-                return Progress {
-                    at,
-                    words: stand,
-                    goes: false,
-                };
-            }
-            Found::Partial => {
-                return Progress {
-                    at,
-                    words: stand,
-                    goes: finish(output, used, b""),
-                };
-            }
-            Found::Nothing => {
-                return Progress {
-                    at,
-                    words: stand,
-                    goes: finish(output, used, b""),
-                };
-            }
+        let found = find(input, at);
+        let Found::Whole(tag, length) = found else {
+            return stopped(found, at, stand, output, used);
+        };
+        let start = at + 3;
+        let end = start + length as usize;
+        let body = &input[start..end];
+        let played = play_field(access, records, words, stand, tag, body, &mut line);
+        let n = played.line;
+        let gathered = gather(output, used, &line[..n]);
+        if !gathered.good {
+            return Progress {
+                at,
+                words: stand,
+                goes: false,
+            };
         }
+        used = gathered.used;
+        stand = played.words;
+        at = end;
     }
 }
 
