@@ -14,15 +14,15 @@ use Rattle.rules.specs.Bench.{benchList, request, handover, setConfig}
 use Rattle.noninterference.specs.Statement.{start, Loaded, insider, aboutChosen, picked, picks, answers, Noninterference}
 use Rattle.noninterference.proofs.Theorem.{noninterference}
 
-abbrev heaterAndTiming : List ℕ
-heaterAndTiming = 1 ∷ 2 ∷ []
+abbrev bothR5 : List ℕ
+bothR5 = 1 ∷ 2 ∷ []
 
-bench-loaded : Loaded ours benchList heaterAndTiming
+bench-loaded : Loaded ours benchList bothR5
 unfolding firstOf anyOf allOf ours boardHost activeHost placeIn rows rowOf onBoard noEntry partsFrom namedIn entryTable entriesTable listTable verdictOf entryIn withPart withParts noEntries entriesOf hasEntry fresh entryOf accepted afterList start
 bench-loaded = record { taken = refl; named = refl }
 
-pub on-the-bench : Noninterference ours benchList heaterAndTiming
-on-the-bench = noninterference ours benchList heaterAndTiming bench-loaded
+pub on-the-bench : Noninterference ours benchList bothR5
+on-the-bench = noninterference ours benchList bothR5 bench-loaded
 
 -- host 3 takes processor 1, sets its vector and hands it over to 5
 abbrev quiet : List Call
@@ -33,12 +33,12 @@ abbrev disturbed : List Call
 disturbed =
     request 12 ∷ request 3 ∷ setConfig 12 0x41C00100 0 ∷ list benchList ∷ setConfig 3 0x41C00080 0 ∷ handover 12 12 ∷ handover 3 5 ∷ request 12 ∷ []
 
-same-picks : picks ours benchList heaterAndTiming quiet ≡ picks ours benchList heaterAndTiming disturbed
+same-picks : picks ours benchList bothR5 quiet ≡ picks ours benchList bothR5 disturbed
 unfolding firstOf anyOf ours boardHost activeHost placeIn rows rowOf onBoard noEntry partsFrom namedIn entryTable entriesTable listTable verdictOf entryIn withPart withParts noEntries entriesOf hasEntry isMaster isSecondary permitted kindOf namesProcessor isAbout fresh entryOf accepted afterList start insider aboutChosen picked picks
 same-picks = refl
 
 -- so host 12 changes none of the answers
 pub undisturbed :
-    answers ours benchList heaterAndTiming (start ours benchList) quiet
-    ≡ answers ours benchList heaterAndTiming (start ours benchList) disturbed
+    answers ours benchList bothR5 (start ours benchList) quiet
+    ≡ answers ours benchList bothR5 (start ours benchList) disturbed
 undisturbed = on-the-bench .same-answers quiet disturbed same-picks
