@@ -10,14 +10,14 @@ use mathlib.Core.List.{List, [], _∷_, _++_}
 use mathlib.Core.Logic.{⊎-elim}
 use lib.ListN.{length, set, drop, replicate}
 use lib.Seq.{sets, set-out}
-use borrow.Author.Tests.{ltb-true, ltb-false, eqb-true}
+use borrow.Author.Tests.{ltb-true, ltb-false, eqb-true, not-false}
 use Rattle.rules.specs.declared.Record.{Record}
 use Rattle.rules.specs.declared.Verdict.{Verdict}
 use Rattle.rules.specs.declared.Verdict.the-variants.{Accepted}
 use Rattle.rules.specs.Board.{ours, placeIn, rows, rowOf, onBoard}
 use Rattle.rules.specs.AccessList.{Entry, noEntry, partAt, partsFrom, processorIn, masterIn, secondariesIn, used, entryIn, withPart, withParts, noEntries, entriesOf, verdictOf}
 use Rattle.rules.specs.Call.{State, accepted, afterList}
-use Rattle.rules.proofs.Tests.{decide, clash, not-false, cond-true, cond-false}
+use Rattle.rules.proofs.Tests.{decide, clash, cond-true, cond-false}
 use Rattle.access.proofs.Verdicts.{not-accepted}
 use Rattle.access.specs.Memory.{byRow, listedIn, entryPlace, entryAt, entriesIn, wordsOf, accessAfter, putEntry, entriesBefore}
 

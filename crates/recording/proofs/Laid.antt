@@ -32,14 +32,6 @@ laid-more d at t x h =
     size : suc (at + length t) ≡ at + (length t + 1)
     size = omega arith
 
--- the laid text leaves the buffer's length
-pub length-laid : (d : List ℕ) (at : ℕ) (t : List ℕ) → at + length t ≤ length d → length (laid d at t) ≡ length d
-length-laid d at t h =
-    length-append (take at d ++ t) (drop (at + length t) d)
-    ∙ ap (λ (n : ℕ). n + length (drop (at + length t) d)) (head-length d at t h)
-    ∙ ap (λ (n : ℕ). at + length t + n) (length-drop (at + length t) d)
-    ∙ omega arith
-
 -- nothing laid
 pub laid-none : (d : List ℕ) (at : ℕ) → d ≡ laid d at []
 laid-none d at = paste-zero d at []

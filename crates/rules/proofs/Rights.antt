@@ -8,7 +8,7 @@ use mathlib.Core.Logic.{⊎-elim}
 use native.Mathlib.Nat.{le-trans}
 use lib.ListN.{length}
 use lib.Dec.{eqb, ltb, leb, lit≤}
-use borrow.Author.Tests.{eqb-true, eq-eqb, ltb-false, le-leb}
+use borrow.Author.Tests.{eqb-true, eq-eqb, ltb-false, le-leb, not-true, not-false}
 use Rattle.rules.specs.declared.Kind.{Kind}
 use Rattle.rules.specs.declared.Kind.the-variants.{Request, Release, Handover, SetConfig, SetControl, AuthBoot, GetStatus, WaitStatus, Other}
 use Rattle.rules.specs.declared.Outcome.{Outcome}
@@ -20,7 +20,7 @@ use Rattle.rules.specs.AccessList.{Entry, noEntry, hasEntry, isMaster, i
 use Rattle.rules.specs.Message.{Query, hostOf, kindIn, sizeOf, isKind, processorOf, newHostOf, namesProcessor, isAbout}
 use Rattle.rules.specs.Outcome.{View, roomTooSmall, lengthWrong, senderWrong, typeUnknown, tooShort, notOffered, isFree, isController, mayRequest, hasRight, operandsGood, wordsMissing, waitFailed, outcomeTable, outcomeOf, outcomeNumber, carriedOut}
 use Rattle.rules.specs.Effect.{heldBy, withConfig, withControl, effectOf, recordAfter}
-use Rattle.rules.proofs.Tests.{decide, clash, and-left, and-right, and-both, or-cases, or-left, or-right, or-false-left, not-false, not-true, cond-true, cond-false}
+use Rattle.rules.proofs.Tests.{decide, clash, and-left, and-right, and-both, or-cases, or-left, or-right, or-false-left, cond-true, cond-false}
 
 -- ---- every row is clear where the outcome is OK
 

@@ -44,18 +44,6 @@ pub or-false-left : (x y : Bool) → (x || y) ≡ false → x ≡ false
 or-false-left true y p = p
 or-false-left false y p = refl
 
-pub or-false-right : (x y : Bool) → (x || y) ≡ false → y ≡ false
-or-false-right true y p = clash {x = true} refl p
-or-false-right false y p = p
-
-pub not-false : (x : Bool) → not x ≡ false → x ≡ true
-not-false true p = refl
-not-false false p = sym p
-
-pub not-true : (x : Bool) → not x ≡ true → x ≡ false
-not-true true p = sym p
-not-true false p = refl
-
 pub cond-true {ℓ} : {A : Type ℓ} {x : Bool} (a b : A) → x ≡ true → cond x a b ≡ a
 cond-true a b p = rw p
 
@@ -63,16 +51,6 @@ pub cond-false {ℓ} : {A : Type ℓ} {x : Bool} (a b : A) → x ≡ false → c
 cond-false a b p = rw p
 
 -- ---- tables
-
--- a line whose test holds answers, and one whose test fails is passed
-pub firstOf-here : {A : Type 0} (other : A) (test : Bool) (a : A) (below : List (Line A)) → test ≡ true → firstOf other ((test gives a) ∷ below) ≡ a
-unfolding firstOf
-firstOf-here other test a below t = rw t
-
-pub firstOf-next : {A : Type 0} (other : A) (test : Bool) (a : A) (below : List (Line A)) → test ≡ false
-    → firstOf other ((test gives a) ∷ below) ≡ firstOf other below
-unfolding firstOf
-firstOf-next other test a below f = rw f
 
 -- below a table's last line the next table is read
 pub firstOf-append : {A : Type 0} (other : A) (above below : List (Line A))
