@@ -7,7 +7,7 @@ ghost use Rattle.access.specs.Memory.{listedIn, entryAt};
 use board::is_active;
 
 // The word at place `i` of the access memory; past its end there are zeros.
-pub fn word_at(access: &[u16], i: usize) -> u16
+fn word_at(access: &[u16], i: usize) -> u16
     ensures { λ r. ⌜ r ≡ getD (now (access .entry)) i 0 ⌝ }
 {
     if i < access.len() {

@@ -7,6 +7,5 @@ mod loaded;
 pub use asked::is_listed;
 pub use asked::is_master;
 pub use asked::is_permitted;
-pub use asked::word_at;
 pub use judged::judge;
 pub use loaded::offer_list;

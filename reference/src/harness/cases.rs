@@ -8,37 +8,31 @@ use crate::message::ANSWER_BYTES;
 use crate::record::{RecordMemory, RECORD_WORDS};
 use crate::session::{write_line, Event, TAG_LIST};
 
+/// What a manager remembers: zeros at the start.
+pub struct Memory {
+    pub access: AccessMemory,
+    pub records: RecordMemory,
+}
+
 /// The two calls, whoever carries them out, with the lines that tell of them.
 pub trait Calls {
     /// Takes a list and gives its line.
-    fn list(&self, access: &mut AccessMemory, list: &[u8]) -> String;
+    fn list(&self, memory: &mut Memory, list: &[u8]) -> String;
 
     /// Takes a message and gives its line.
-    fn message(
-        &self,
-        access: &AccessMemory,
-        records: &mut RecordMemory,
-        call: &Call,
-        answer: &mut [u8],
-    ) -> String;
+    fn message(&self, memory: &mut Memory, call: &Call, answer: &mut [u8]) -> String;
 }
 
 /// The calls of this crate.
 pub struct Model;
 
 impl Calls for Model {
-    fn list(&self, access: &mut AccessMemory, list: &[u8]) -> String {
-        line_of(&Event::List(accept_list(access, list)))
+    fn list(&self, memory: &mut Memory, list: &[u8]) -> String {
+        line_of(&Event::List(accept_list(&mut memory.access, list)))
     }
 
-    fn message(
-        &self,
-        access: &AccessMemory,
-        records: &mut RecordMemory,
-        call: &Call,
-        answer: &mut [u8],
-    ) -> String {
-        let report = handle(access, records, call, answer);
+    fn message(&self, memory: &mut Memory, call: &Call, answer: &mut [u8]) -> String {
+        let report = handle(&memory.access, &mut memory.records, call, answer);
         let mut bytes = [0; ANSWER_BYTES];
         bytes[..report.written].copy_from_slice(&answer[..report.written]);
         line_of(&Event::Message(report, bytes))
@@ -53,12 +47,11 @@ fn line_of(event: &Event) -> String {
 
 /// Runs a case from the start; says which step gave another line than it has to.
 pub fn run_case(calls: &impl Calls, case: &Case) -> Result<(), String> {
-    let mut access = [0; ACCESS_WORDS];
-    let mut records = [0; RECORD_WORDS];
+    let mut memory = Memory { access: [0; ACCESS_WORDS], records: [0; RECORD_WORDS] };
     let mut status: &[u32] = &[];
     for (number, step) in case.steps.iter().enumerate() {
         let (given, expected) = match step {
-            Step::List { list, line } => (calls.list(&mut access, list), line),
+            Step::List { list, line } => (calls.list(&mut memory, list), line),
             Step::Status { words } => {
                 status = words;
                 continue;
@@ -66,7 +59,7 @@ pub fn run_case(calls: &impl Calls, case: &Case) -> Result<(), String> {
             Step::Message { channel, message, room, line } => {
                 let call = Call { channel: *channel, message, status };
                 let mut answer = vec![0; *room];
-                (calls.message(&access, &mut records, &call, &mut answer), line)
+                (calls.message(&mut memory, &call, &mut answer), line)
             }
         };
         if given != *expected {

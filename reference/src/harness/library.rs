@@ -4,7 +4,7 @@
 use std::fmt::Debug;
 
 use crate::access::{accept_list, has_list, AccessMemory, ListFault, LIST_FAULTS};
-use crate::harness::cases::Calls;
+use crate::harness::cases::{Calls, Memory};
 use crate::harness::coverage::Coverage;
 use crate::harness::drafts::{draft, Scene, LONGEST_RECORDED};
 use crate::harness::goals::{goals, pick_goal, Goal};
@@ -30,22 +30,16 @@ const CALLS_PER_START: u64 = 10;
 pub struct StaticLibrary;
 
 impl Calls for StaticLibrary {
-    fn list(&self, access: &mut AccessMemory, list: &[u8]) -> String {
-        match static_library::list(access, list) {
+    fn list(&self, memory: &mut Memory, list: &[u8]) -> String {
+        match static_library::list(&mut memory.access, list) {
             0 => "list OK".to_string(),
             number => format!("list A{number}"),
         }
     }
 
-    fn message(
-        &self,
-        access: &AccessMemory,
-        records: &mut RecordMemory,
-        call: &Call,
-        answer: &mut [u8],
-    ) -> String {
+    fn message(&self, memory: &mut Memory, call: &Call, answer: &mut [u8]) -> String {
         let RawReport { outcome, checks, microseconds, written } =
-            static_library::message(access, records, call, answer);
+            static_library::message(&memory.access, &mut memory.records, call, answer);
         let name = match outcome {
             0 => "OK".to_string(),
             1..=9 => format!("N{outcome}"),
