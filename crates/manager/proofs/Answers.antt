@@ -1,20 +1,20 @@
 -- The answer's bytes by case, and what fits the room. Assumes nothing.
-use Prim.Native.Nat.{ℕ, _<_, _≤_}
-use mathlib.Core.Path.{_≡_, refl, sym, ap, _∙_}
+use Prim.Native.Nat.{ℕ, _<_}
+use mathlib.Core.Path.{_≡_, refl}
 use mathlib.Core.Bool.{Bool, true, false, cond, _&&_}
-use mathlib.Core.List.{List, [], _∷_, _++_}
+use mathlib.Core.List.{List, [], _++_}
 use mathlib.Core.Logic.{⊎-elim}
 use native.Mathlib.Omega.{arith}
-use lib.ListN.{length, drop}
-use lib.Dec.{eqb, ltb, leb}
-use borrow.Author.Tests.{lt-ltb, ne-eqb, le-leb}
+use lib.ListN.{length}
+use lib.Dec.{leb}
+use borrow.Author.Tests.{lt-ltb, ne-eqb}
 use Rattle.rules.specs.declared.Kind.the-variants.{GetStatus}
 use Rattle.rules.specs.declared.Outcome.{Outcome}
 use Rattle.rules.specs.declared.Record.{Record}
 use Rattle.rules.specs.Message.{answerAsked, isKind, kindIn}
 use Rattle.rules.specs.Outcome.{outcomeNumber, carriedOut, silent}
 use Rattle.rules.specs.Answer.{headerWith, ack, statusBytes, ackBytes, bytesFor, answerBytes, bufferAfter}
-use Rattle.rules.proofs.Tests.{decide, and-left, and-right, cond-true, cond-false}
+use Rattle.rules.proofs.Tests.{decide, and-left, and-right, cond-false}
 use Rattle.manager.specs.Decision.{fitted}
 
 -- ---- what fits

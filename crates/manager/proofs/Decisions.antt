@@ -2,9 +2,8 @@
 -- refusal; and what the code's tests say of the rows' tests. Assumes nothing.
 use Prim.Native.Nat.{ℕ, _≤_, _<_}
 use mathlib.Core.Path.{_≡_, refl, sym, ap, _∙_}
-use mathlib.Core.Bool.{Bool, true, false, cond, not, _&&_, _||_, and-false}
+use mathlib.Core.Bool.{Bool, true, false, cond, not, and-false}
 use mathlib.Core.List.{List, [], _∷_}
-use mathlib.Core.Logic.{⊎-elim}
 use lib.Dec.{eqb}
 use borrow.Author.Tests.{lt-ltb, le-ltb, not-true, not-false}
 use Rattle.rules.specs.declared.Kind.{Kind}
@@ -19,8 +18,7 @@ use Rattle.rules.specs.Wait.{ranOut, checksOf, microsOf}
 use Rattle.rules.specs.Outcome.{View, roomTooSmall, lengthWrong, senderWrong, tooShort, hasRight, operandsGood, wordsMissing, waitFailed, outcomeTable, carriedOut, outcomeNumber}
 use Rattle.rules.specs.Effect.{effectOf}
 use Rattle.rules.specs.Answer.{waited}
-use Rattle.rules.proofs.Tests.{decide, clash, cond-true, cond-false}
-use Rattle.manager.specs.declared.Decision.{Decision}
+use Rattle.rules.proofs.Tests.{clash}
 use Rattle.manager.specs.Decision.{refusedWith, decisionFrom, ruleTable, kindTable, decisionOf}
 
 -- no wait ends in a refusal that carries no checks

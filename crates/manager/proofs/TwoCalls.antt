@@ -1,21 +1,19 @@
 -- The two calls over plain lists: what their steps leave is what the rules give. Assumes nothing.
 use Prim.Native.Nat.{ℕ, _≤_, _<_}
-use mathlib.Core.Path.{_≡_, refl, sym, ap, _∙_, subst}
-use mathlib.Core.Bool.{Bool, true, false, cond}
-use mathlib.Core.List.{List, [], _∷_, _++_}
+use mathlib.Core.Path.{_≡_, refl, sym, ap, _∙_}
+use mathlib.Core.Bool.{Bool, true, false}
+use mathlib.Core.List.{List, []}
 use mathlib.Core.Logic.{⊎-elim}
-use native.Mathlib.Omega.{arith}
 use native.Mathlib.Nat.{le-trans}
 use lib.ListN.{length, getD, set}
 use lib.Seq.{set-out}
-use lib.Dec.{ltb, leb, lit≤, lit<}
+use lib.Dec.{ltb, lit≤, lit<}
 use borrow.Author.Tests.{le-leb, ltb-true, ltb-false}
 use Rattle.rules.specs.declared.Kind.the-variants.{GetStatus}
 use Rattle.rules.specs.declared.Outcome.{Outcome}
 use Rattle.rules.specs.declared.Outcome.the-variants.{R1}
 use Rattle.rules.specs.declared.Record.{Record}
 use Rattle.rules.specs.declared.Report.{Report}
-use Rattle.rules.specs.Table.{firstOf}
 use Rattle.rules.specs.Board.{ours, rows, rowOf}
 use Rattle.rules.specs.Message.{Query, answerAsked, isKind, kindIn, processorOf}
 use Rattle.rules.specs.Outcome.{View, outcomeOf, carriedOut, silent}
@@ -29,7 +27,7 @@ use Rattle.access.specs.Memory.{byRow, listedIn, entriesIn, accessAfter}
 use Rattle.access.proofs.Memory.{after-listed, after-entries}
 use Rattle.manager.specs.declared.Decision.{Decision}
 use Rattle.records.specs.Memory.{recordAt, recordsIn, stateIn, viewIn, withRecord}
-use Rattle.manager.specs.Decision.{viewWith, asked, decisionFrom, decisionOf, fitted}
+use Rattle.manager.specs.Decision.{viewWith, decisionFrom, decisionOf, fitted}
 use Rattle.manager.specs.Calls.{MessageCall}
 use Rattle.manager.proofs.Answers.{fitted-none, bytes-unasked, bytes-silent}
 use Rattle.manager.proofs.Decisions.{call-R1}

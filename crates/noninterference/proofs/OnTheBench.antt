@@ -3,13 +3,12 @@
 use Prim.Native.Nat.{ℕ}
 use mathlib.Core.Path.{_≡_, refl}
 use mathlib.Core.List.{List, [], _∷_}
-use lib.ListN.{replicate}
 use Rattle.rules.specs.Table.{firstOf, anyOf, allOf}
 use Rattle.rules.specs.Board.{ours, boardHost, activeHost, placeIn, rows, rowOf, onBoard}
-use Rattle.rules.specs.AccessList.{noEntry, partsFrom, namedIn, entryTable, entriesTable, listTable, verdictOf, verdictNumber, entryIn, withPart, withParts, noEntries, entriesOf, hasEntry, isMaster, isSecondary, permitted}
+use Rattle.rules.specs.AccessList.{noEntry, partsFrom, namedIn, entryTable, entriesTable, listTable, verdictOf, entryIn, withPart, withParts, noEntries, entriesOf, hasEntry, isMaster, isSecondary, permitted}
 use Rattle.rules.specs.Message.{kindOf, namesProcessor, isAbout}
 use Rattle.rules.specs.Call.{fresh, entryOf, accepted, afterList}
-use Rattle.rules.specs.Sequence.{Call, list, message}
+use Rattle.rules.specs.Sequence.{Call, list}
 use Rattle.rules.specs.Bench.{benchList, request, handover, setConfig}
 use Rattle.noninterference.specs.Statement.{start, Loaded, insider, aboutChosen, picked, picks, answers, Noninterference}
 use Rattle.noninterference.proofs.Theorem.{noninterference}

@@ -2,26 +2,26 @@
 -- chosen processors. Assumes nothing.
 use Prim.Native.Nat.{ℕ, zero, suc}
 use mathlib.Core.Path.{_≡_, refl, sym, subst, subst⁻¹, _∙_, ap}
-use mathlib.Core.Bool.{Bool, true, false, cond, not, _&&_, _||_}
-use mathlib.Core.List.{List, [], _∷_}
+use mathlib.Core.Bool.{Bool, true, false}
+use mathlib.Core.List.{List}
 use mathlib.Core.Logic.{⊎-elim}
-use lib.ListN.{length, getD, set, replicate, length-set, length-replicate, getD-replicate}
+use lib.ListN.{length, getD, set, replicate, length-set, length-replicate}
 use lib.Seq.{set-getD, getD-set-same, getD-set-other, set-out}
 use lib.Dec.{eqb, ltb}
-use borrow.Author.Tests.{eqb-true, eqb-false, eq-eqb, ltb-true, ltb-false}
+use borrow.Author.Tests.{eqb-true, eqb-false, ltb-true, ltb-false}
 use Rattle.rules.specs.declared.Record.{Record}
-use Rattle.rules.specs.Table.{firstOf, anyOf, allOf}
-use Rattle.rules.specs.Board.{Board, rows, rowOf, onBoard}
-use Rattle.rules.specs.AccessList.{Entry, noEntry, hasEntry, permitted, entriesOf, verdictOf, listTable, verdictNumber}
+use Rattle.rules.specs.Table.{firstOf, anyOf}
+use Rattle.rules.specs.Board.{Board, rows, rowOf}
+use Rattle.rules.specs.AccessList.{Entry, noEntry, permitted, entriesOf, verdictOf, listTable}
 use Rattle.rules.specs.Message.{Query, isAbout, processorOf}
 use Rattle.rules.specs.Outcome.{View, isFree, outcomeOf, carriedOut}
 use Rattle.rules.specs.Effect.{recordAfter}
 use Rattle.rules.specs.Answer.{reportOf, answerOf}
 use Rattle.rules.specs.Call.{State, freeRecord, fresh, entryOf, recordOf, viewOf, accepted, afterList, afterMessage}
-use Rattle.rules.specs.Sequence.{Call, list, message, queryOf, next, run, Answer, answerTo}
-use Rattle.rules.proofs.Tests.{decide, clash, and-right, and-both, or-left, anyOf-member, anyOf-find, allOf-member, cond-true, cond-false, set-alike}
+use Rattle.rules.specs.Sequence.{message, answerTo}
+use Rattle.rules.proofs.Tests.{decide, clash, and-right, and-both, or-left, anyOf-member, anyOf-find, cond-true, cond-false, set-alike}
 use Rattle.rules.proofs.Rows.{row-one}
-use Rattle.rules.proofs.Rights.{Allowed, allowed, sender-permitted, after-sound, refusal-keeps, carried-about, about-names, soundly}
+use Rattle.rules.proofs.Rights.{allowed, sender-permitted, after-sound, refusal-keeps, carried-about, about-names, soundly}
 use Rattle.noninterference.specs.Statement.{start, Loaded, insider, aboutChosen, picked, freeOrPermitted}
 
 -- ---- stores by row

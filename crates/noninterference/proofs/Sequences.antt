@@ -1,17 +1,15 @@
 -- Whole sequences: the picked answers and the chosen records of a sequence are those of its picks run alone. Assumes nothing.
 use Prim.Native.Nat.{ℕ}
-use mathlib.Core.Path.{_≡_, refl, sym, subst, subst⁻¹, _∙_, ap, ap₂}
-use mathlib.Core.Bool.{Bool, true, false, cond}
+use mathlib.Core.Path.{_≡_, refl, subst, subst⁻¹, _∙_, ap₂}
+use mathlib.Core.Bool.{true, false}
 use mathlib.Core.List.{List, [], _∷_}
 use mathlib.Core.Logic.{⊎-elim}
-use lib.Dec.{eqb}
-use Rattle.rules.specs.Table.{anyOf}
 use Rattle.rules.specs.Board.{Board}
 use Rattle.rules.specs.Message.{Query}
-use Rattle.rules.specs.Call.{State, recordOf, afterList, afterMessage}
+use Rattle.rules.specs.Call.{State, afterList, afterMessage}
 use Rattle.rules.specs.Sequence.{Call, list, message, queryOf, next, run, Answer, answerTo}
-use Rattle.rules.proofs.Tests.{decide, cond-true, cond-false}
-use Rattle.noninterference.specs.Statement.{start, Loaded, picked, picks, answers}
+use Rattle.rules.proofs.Tests.{decide}
+use Rattle.noninterference.specs.Statement.{Loaded, picked, picks, answers}
 use Rattle.noninterference.proofs.OneCall.{Reached, list-kept, message-reached, unpicked-keeps, Agree, answer-same, agree-after}
 
 -- the picks alone, and their answers

@@ -1,22 +1,20 @@
 -- Demand 3: noninterference, for every board, every accepted list and any processors that have entries in it; and the start depends on
 -- the list alone. Assumes nothing.
 use Prim.Native.Nat.{ℕ}
-use mathlib.Core.Path.{_≡_, refl, sym, subst, _∙_, ap}
-use mathlib.Core.Bool.{Bool, true, false}
+use mathlib.Core.Path.{_≡_, refl, sym, _∙_, ap}
+use mathlib.Core.Bool.{true, false}
 use mathlib.Core.List.{List, [], _∷_}
 use mathlib.Core.Logic.{⊎-elim}
-use lib.Dec.{eqb}
-use Rattle.rules.specs.Table.{anyOf}
 use Rattle.rules.specs.Board.{Board}
 use Rattle.rules.specs.AccessList.{verdictOf}
 use Rattle.rules.specs.Message.{Query, processorOf}
 use Rattle.rules.specs.Outcome.{outcomeOf, carriedOut}
 use Rattle.rules.specs.Call.{State, fresh, recordOf, viewOf, accepted, afterList, afterMessage}
-use Rattle.rules.specs.Sequence.{Call, list, message, queryOf, next, run, Answer}
+use Rattle.rules.specs.Sequence.{Call, list, message, queryOf, next, run}
 use Rattle.rules.proofs.Tests.{decide, clash, cond-false}
-use Rattle.rules.proofs.Rights.{Allowed, allowed}
-use Rattle.noninterference.specs.Statement.{start, Loaded, picks, answers, Noninterference, NoTrace}
-use Rattle.noninterference.proofs.OneCall.{Reached, start-reached, outsider-refused-here, list-kept, kept-records}
+use Rattle.rules.proofs.Rights.{allowed}
+use Rattle.noninterference.specs.Statement.{start, Loaded, Noninterference, NoTrace}
+use Rattle.noninterference.proofs.OneCall.{start-reached, outsider-refused-here, list-kept, kept-records}
 use Rattle.noninterference.proofs.Sequences.{Erased, erase, run-reached, answerPicks, runPicks}
 
 -- the picks of a sequence from the start, run alone

@@ -1,6 +1,6 @@
 -- A message's line, from what the message call gives. Assumes nothing.
 use Prim.Native.Nat.{ℕ}
-use mathlib.Core.Path.{_≡_, refl, sym, ap, ap₂, _∙_}
+use mathlib.Core.Path.{_≡_, ap, ap₂, _∙_}
 use mathlib.Core.List.{List, [], _∷_, _++_}
 use lib.ListN.{length, take, drop}
 use lib.Seq.{take-append-seam}
@@ -10,8 +10,8 @@ use Rattle.rules.specs.Message.{Query}
 use Rattle.rules.specs.Outcome.{outcomeNumber}
 use Rattle.rules.specs.Answer.{bufferAfter, reportOf}
 use Rattle.rules.specs.Call.{State}
-use Rattle.rules.specs.Sequence.{Answer, answerTo}
-use Rattle.recording.specs.Lines.{outcomeName, decimalOf, answerText, messageLine, laid}
+use Rattle.rules.specs.Sequence.{answerTo}
+use Rattle.recording.specs.Lines.{outcomeName, decimalOf, answerText, messageLine}
 
 -- the line, as the code puts it together
 abbrev pub lineText : ℕ → ℕ → ℕ → List ℕ → List ℕ

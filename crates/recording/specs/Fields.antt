@@ -2,9 +2,9 @@
 -- and what stands at a place of a buffer. A bad tag is judged alone; a length once both its bytes are there and before the body.
 -- Assumes nothing.
 use Prim.Native.Nat.{ℕ, zero, suc, _+_, _*_, _-_, _/_, _%_}
-use mathlib.Core.Bool.{Bool, cond, not, _&&_, _||_}
+use mathlib.Core.Bool.{Bool, not, _&&_, _||_}
 use mathlib.Core.List.{List, [], _∷_}
-use lib.ListN.{length, drop, take}
+use lib.ListN.{length}
 use lib.Dec.{eqb, leb, ltb}
 use Rattle.rules.specs.Table.{_gives_, firstOf}
 use Rattle.rules.specs.Bytes.{byteAt, u16At, u32At}

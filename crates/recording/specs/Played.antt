@@ -2,7 +2,7 @@
 use Prim.Native.Nat.{ℕ, _≤_}
 use mathlib.Core.Path.{_≡_}
 use mathlib.Core.List.{List}
-use lib.ListN.{length, drop, take, replicate}
+use lib.ListN.{length, drop, replicate}
 use Rattle.rules.specs.Bytes.{byteAt}
 use Rattle.rules.specs.Board.{ours}
 use Rattle.rules.specs.AccessList.{verdictOf}

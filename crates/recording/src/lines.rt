@@ -1,6 +1,5 @@
 // A whole field carried out, and the line that it prints. Text is laid over the line piece by piece:
 // each piece from a place on, giving the place behind it.
-ghost use mathlib.Core.Bool.{cond};
 ghost use mathlib.Core.List.{_++_, _∷_, []};
 ghost use mathlib.Core.Path.{_≡_};
 ghost use Prim.Native.Nat.{_+_, _-_, _*_, _≤_, _<_};

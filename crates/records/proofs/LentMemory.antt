@@ -1,21 +1,19 @@
 -- The laws of the lent memory: a record that was stored is read back, at its row and at no other; what a call sees of the processor
 -- that it names is what stands at its row. Assumes nothing.
 use Prim.Native.Nat.{ℕ, zero, suc, _+_, _*_, _≤_, _<_}
-use mathlib.Core.Path.{_≡_, refl, sym, ap, _∙_, subst}
-use mathlib.Core.Bool.{Bool, true, false, cond}
+use mathlib.Core.Path.{_≡_, refl, sym, ap, _∙_}
 use mathlib.Core.List.{List, [], _∷_}
 use mathlib.Core.Logic.{_⊎_, inl, inr, ⊎-elim}
 use native.Mathlib.Nat.{add-zero, add-suc, suc-add, zero-add, not-suc-le-zero, le-of-suc-le-suc}
 use native.Mathlib.Numerals.{towards-suc}
 use native.Mathlib.Omega.{arith}
 use lib.ListN.{length, getD, set, replicate, length-set, List·getD-eq-default}
-use lib.Seq.{sets, getD-set-same, getD-set-other, set-out}
-use lib.Dec.{eqb, ltb}
-use borrow.Author.Tests.{lt-ltb, le-ltb, ltb-true, ltb-false, eqb-true, eqb-false}
+use lib.Seq.{sets, getD-set-same, getD-set-other}
+use lib.Dec.{ltb}
+use borrow.Author.Tests.{lt-ltb, le-ltb, ltb-true, ltb-false}
 use Rattle.rules.specs.declared.Record.{Record}
-use Rattle.rules.specs.Board.{Board, Processor, ours, placeIn, rows, rowOf}
-use Rattle.rules.specs.AccessList.{Entry, noEntry, noEntries}
-use Rattle.rules.specs.Outcome.{View}
+use Rattle.rules.specs.Board.{ours, rows, rowOf}
+use Rattle.rules.specs.AccessList.{noEntry, noEntries}
 use Rattle.rules.specs.Call.{freeRecord, fresh, entryOf, recordOf, viewOf}
 use Rattle.rules.proofs.Tests.{decide}
 use Rattle.rules.proofs.Rows.{row-within}

@@ -3,16 +3,15 @@ use mathlib.Core.Path.{_≡_, refl}
 use mathlib.Core.List.{map}
 use Rattle.rules.specs.Table.{firstOf, anyOf}
 use Rattle.rules.specs.Board.{ours, boardHost, activeHost, placeIn, rows, rowOf, onBoard, classAt, classOf, maskOf}
-use Rattle.rules.specs.AccessList.{noEntry, partsFrom, namedIn, entryTable, entriesTable, listTable, verdictOf, verdictNumber, entryIn, withPart, withParts, noEntries, entriesOf, hasEntry, isMaster, isSecondary, permitted}
+use Rattle.rules.specs.AccessList.{noEntry, partsFrom, namedIn, entryTable, entriesTable, listTable, verdictOf, entryIn, withPart, withParts, noEntries, entriesOf, hasEntry, isMaster, isSecondary, permitted}
 use Rattle.rules.specs.Message.{answerAsked, kindOf, waitIn}
-use Rattle.rules.specs.Flags.{clearMaskOf, flagsGood, vectorGood}
-use Rattle.rules.specs.Wait.{wordMatches, runAfter, endsRun, firstEnd, endingCheck, ranOut, checksOf, microsOf, waitGood}
-use Rattle.rules.specs.Outcome.{senderWrong, mayRequest, hasRight, configGood, controlGood, operandsGood, wordsMissing, waitFailed, outcomeTable, outcomeOf, outcomeNumber, carriedOut, silent}
-use Rattle.rules.specs.Effect.{heldBy, withConfig, withControl, effectOf, recordAfter}
+use Rattle.rules.specs.Wait.{runAfter, endsRun, firstEnd, endingCheck, ranOut, checksOf, microsOf}
+use Rattle.rules.specs.Outcome.{senderWrong, wordsMissing, waitFailed, outcomeTable, outcomeOf, carriedOut, silent}
+use Rattle.rules.specs.Effect.{recordAfter}
 use Rattle.rules.specs.Answer.{ackBytes, bytesFor, answerBytes, answerOf, waited, reportOf}
 use Rattle.rules.specs.Call.{freeRecord, fresh, entryOf, recordOf, viewOf, accepted, afterList, afterMessage}
 use Rattle.rules.specs.Sequence.{next, run, answerTo}
-use Rattle.rules.specs.Bench.{Case, Given, givenIn, answerGiven, starred}
+use Rattle.rules.specs.Bench.{Case, givenIn, answerGiven, starred}
 
 -- each row gives what it says
 pub starred-hold :

@@ -1,8 +1,8 @@
 -- The flag rules, once for every class and word: what an accepted pair of set and clear words leaves. Assumes nothing.
-use Prim.Native.Nat.{ℕ, zero, suc, _+_, _*_, _-_, _/_, _%_, _^_, _<_, _≤_, min, max}
+use Prim.Native.Nat.{ℕ, zero, suc, _*_, _-_, _/_, _%_, _^_, _<_, min, max}
 use mathlib.Core.Path.{_≡_, refl, sym, _∙_, ap, ap₂}
-use mathlib.Core.Bool.{Bool, true, _&&_}
-use native.Mathlib.Nat.{div-one, div-div-eq-div-mul, pow-suc, pow-zero, mul-comm, le-of-suc-le-suc, not-suc-le-zero, zero-div}
+use mathlib.Core.Bool.{true, _&&_}
+use native.Mathlib.Nat.{div-div-eq-div-mul, pow-suc, mul-comm, le-of-suc-le-suc, not-suc-le-zero, zero-div}
 use native.Mathlib.Omega.{arith}
 use lib.Bits.{bitAnd, bitOr, and-step, or-step, and-shr, or-shr}
 use lib.Dec.{eqb, lit<}

@@ -1,25 +1,25 @@
 -- What OK means: every row of the table is clear; so a sender whose message is carried out has a right that the entry names, and leaves
 -- the processor free or with a permitted host. A refusal changes no record. Assumes nothing.
 use Prim.Native.Nat.{ℕ, _≤_}
-use mathlib.Core.Path.{_≡_, refl, sym, subst, _∙_}
-use mathlib.Core.Bool.{Bool, true, false, cond, not, _&&_, _||_}
-use mathlib.Core.List.{List, [], _∷_}
+use mathlib.Core.Path.{_≡_, refl, _∙_}
+use mathlib.Core.Bool.{Bool, true, false, not, _&&_, _||_}
+use mathlib.Core.List.{List, _∷_}
 use mathlib.Core.Logic.{⊎-elim}
 use native.Mathlib.Nat.{le-trans}
 use lib.ListN.{length}
-use lib.Dec.{eqb, ltb, leb, lit≤}
+use lib.Dec.{eqb, leb, lit≤}
 use borrow.Author.Tests.{eqb-true, eq-eqb, ltb-false, le-leb, not-true, not-false}
 use Rattle.rules.specs.declared.Kind.{Kind}
 use Rattle.rules.specs.declared.Kind.the-variants.{Request, Release, Handover, SetConfig, SetControl, AuthBoot, GetStatus, WaitStatus, Other}
 use Rattle.rules.specs.declared.Outcome.{Outcome}
-use Rattle.rules.specs.declared.Outcome.the-variants.{R1, R2, N1, N2, N3, N4, N5, N6, N7, N8, R3, N9, Ok}
+use Rattle.rules.specs.declared.Outcome.the-variants.{Ok}
 use Rattle.rules.specs.declared.Record.{Record}
 use Rattle.rules.specs.Table.{Line, _gives_, firstOf}
 use Rattle.rules.specs.Board.{Board, activeHost, onBoard, classOf}
 use Rattle.rules.specs.AccessList.{Entry, noEntry, hasEntry, isMaster, isSecondary, permitted}
-use Rattle.rules.specs.Message.{Query, hostOf, kindIn, sizeOf, isKind, processorOf, newHostOf, namesProcessor, isAbout}
-use Rattle.rules.specs.Outcome.{View, roomTooSmall, lengthWrong, senderWrong, typeUnknown, tooShort, notOffered, isFree, isController, mayRequest, hasRight, operandsGood, wordsMissing, waitFailed, outcomeTable, outcomeOf, outcomeNumber, carriedOut}
-use Rattle.rules.specs.Effect.{heldBy, withConfig, withControl, effectOf, recordAfter}
+use Rattle.rules.specs.Message.{Query, hostOf, kindIn, sizeOf, processorOf, newHostOf, namesProcessor, isAbout}
+use Rattle.rules.specs.Outcome.{View, senderWrong, typeUnknown, tooShort, notOffered, isFree, isController, mayRequest, hasRight, operandsGood, outcomeTable, outcomeOf, carriedOut}
+use Rattle.rules.specs.Effect.{heldBy, effectOf, recordAfter}
 use Rattle.rules.proofs.Tests.{decide, clash, and-left, and-right, and-both, or-cases, or-left, or-right, or-false-left, cond-true, cond-false}
 
 -- ---- every row is clear where the outcome is OK

@@ -1,7 +1,7 @@
 -- Rows: two processors of which one is on the board share a row only if they are one. For any board. Assumes nothing.
 use Prim.Native.Nat.{ℕ, suc, pred, _<_, _≤_}
-use mathlib.Core.Path.{_≡_, refl, sym, _∙_, subst, ap}
-use mathlib.Core.Bool.{Bool, true, false, cond}
+use mathlib.Core.Path.{_≡_, sym, _∙_, subst, ap}
+use mathlib.Core.Bool.{true, false}
 use mathlib.Core.List.{List, [], _∷_}
 use mathlib.Core.Logic.{⊎-elim}
 use native.Mathlib.Nat.{not-suc-le-zero, le-of-suc-le-suc}

@@ -1,7 +1,7 @@
 -- "The pack on the bench": the starred cases, as one table. Each row has the calls made before, from a fresh manager; the call; and what
 -- it gives. `proofs/Bench.antt` checks the table. Assumes nothing.
 use Prim.Native.Nat.{ℕ}
-use mathlib.Core.List.{List, [], _∷_, _++_, map}
+use mathlib.Core.List.{List, [], _∷_, _++_}
 use lib.ListN.{replicate}
 use Rattle.rules.specs.declared.Outcome.{Outcome}
 use Rattle.rules.specs.declared.Outcome.the-variants.{N7, N8, Ok}
@@ -12,8 +12,8 @@ use Rattle.rules.specs.Bytes.{u32Bytes}
 use Rattle.rules.specs.Board.{ours}
 use Rattle.rules.specs.AccessList.{verdictOf}
 use Rattle.rules.specs.Message.{processorOf}
-use Rattle.rules.specs.Call.{State, fresh, recordOf}
-use Rattle.rules.specs.Sequence.{Call, list, message, queryOf, next, run, Answer, answerTo}
+use Rattle.rules.specs.Call.{State, recordOf}
+use Rattle.rules.specs.Sequence.{Call, list, message, queryOf, next, Answer, answerTo}
 
 -- ---- the calls of the cases
 

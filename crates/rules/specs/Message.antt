@@ -8,7 +8,7 @@ use lib.Dec.{eqb, leb}
 use Rattle.rules.specs.declared.Kind.{Kind}
 use Rattle.rules.specs.declared.Kind.the-variants.{Request, Release, Handover, SetConfig, SetControl, AuthBoot, GetStatus, WaitStatus, Other}
 use Rattle.rules.specs.declared.Wait.{Wait}
-use Rattle.rules.specs.Table.{Line, _gives_, firstOf}
+use Rattle.rules.specs.Table.{_gives_, firstOf}
 use Rattle.rules.specs.Bytes.{byteAt, u16At, u32At, hasBit}
 
 -- ---- the header: type u16, host u8, sequence u8, flags u32

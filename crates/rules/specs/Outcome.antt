@@ -1,7 +1,7 @@
 -- "Outcomes, in the order they are tested", with the rights of N7 and the operands of N8. What a call can see of the state is a `View`, so
 -- that its type shows on what an outcome depends. Assumes nothing.
 use Prim.Native.Nat.{ℕ}
-use mathlib.Core.Bool.{Bool, true, false, cond, not, _&&_, _||_}
+use mathlib.Core.Bool.{Bool, true, false, not, _&&_, _||_}
 use mathlib.Core.List.{List, [], _∷_}
 use lib.ListN.{length}
 use lib.Dec.{eqb, ltb}
@@ -10,7 +10,6 @@ use Rattle.rules.specs.declared.Kind.the-variants.{Request, Release, Han
 use Rattle.rules.specs.declared.Outcome.{Outcome}
 use Rattle.rules.specs.declared.Outcome.the-variants.{R1, R2, N1, N2, N3, N4, N5, N6, N7, N8, R3, N9, Ok}
 use Rattle.rules.specs.declared.Record.{Record}
-use Rattle.rules.specs.declared.Wait.{Wait}
 use Rattle.rules.specs.Table.{Line, _gives_, firstOf}
 use Rattle.rules.specs.Board.{Board, activeHost, onBoard, classOf, configWord, controlWord}
 use Rattle.rules.specs.AccessList.{Entry, isMaster, permitted}

@@ -1,8 +1,7 @@
 -- `status::ending_check` meets its contract. The loop's invariant: the run is that of the words passed, and the search from here on
 -- comes to what it comes to from the start. Assumes nothing.
-use Prim.Native.Nat.{ℕ, suc, _≤_, _-_, min}
+use Prim.Native.Nat.{_≤_, _-_, min}
 use mathlib.Core.Path.{_≡_, refl, sym, ap, _∙_}
-use mathlib.Core.List.{List}
 use native.Mathlib.Nat.{sub-zero}
 use native.Mathlib.Numerals.{add-one}
 use native.Mathlib.Omega.{arith}

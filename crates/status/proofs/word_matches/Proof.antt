@@ -1,6 +1,5 @@
 -- `status::word_matches` meets its contract. Assumes nothing.
 use mathlib.Core.Path.{refl}
-use Rattle.rules.specs.Wait.{wordMatches}
 use Rattle.status.proofs.word_matches.Statement.{statement}
 use Rattle.status.proofs.word_matches.Tie as tie
 

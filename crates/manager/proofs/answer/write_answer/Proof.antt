@@ -1,14 +1,14 @@
 -- `answer::write_answer` meets its contract: each return is a case of the answer's bytes. Assumes nothing.
 use Prim.Native.Nat.{ℕ}
-use mathlib.Core.Path.{_≡_, refl, sym, ap, _∙_}
+use mathlib.Core.Path.{_≡_, sym, ap, _∙_}
 use mathlib.Core.List.{List, []}
-use borrow.Author.Tests.{lt-ltb, le-ltb}
+use borrow.Author.Tests.{le-ltb}
 use mathlib.Core.Bool.{cond}
 use lib.Dec.{leb}
 use lib.ListN.{length}
 use denote.Ref.{now}
 use Rattle.rules.specs.Outcome.{carriedOut, silent}
-use Rattle.rules.specs.Answer.{answerBytes, bufferAfter}
+use Rattle.rules.specs.Answer.{bufferAfter}
 use Rattle.manager.specs.Decision.{fitted}
 use Rattle.manager.proofs.Answers.{fitted-length, fitted-buffer, fitted-none, bytes-unasked, bytes-silent, bytes-status, bytes-header}
 use Rattle.manager.proofs.Decisions.{told-true, told-false}

@@ -1,5 +1,5 @@
 -- `calls::by_kind` meets its contract: each test is a row of the table from N3 on. Assumes nothing.
-use mathlib.Core.Path.{_≡_, sym, _∙_}
+use mathlib.Core.Path.{sym, _∙_}
 use borrow.Author.Tests.{lt-ltb, le-ltb, eq-eqb, ne-eqb}
 use denote.Ref.{now}
 use Rattle.manager.specs.Decision.{viewWith, asked}

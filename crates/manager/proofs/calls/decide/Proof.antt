@@ -1,5 +1,5 @@
 -- `calls::decide` meets its contract: each test is a row of the outcome table. Assumes nothing.
-use mathlib.Core.Path.{_≡_, sym, _∙_}
+use mathlib.Core.Path.{sym, _∙_}
 use borrow.Author.Tests.{lt-ltb, le-ltb}
 use denote.Ref.{now}
 use Rattle.manager.specs.Decision.{viewWith, asked}

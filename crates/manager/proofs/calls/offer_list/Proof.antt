@@ -1,5 +1,5 @@
 -- `manager::offer_list` meets its contract: the list call of crate `access`, read as the rules' state. Assumes nothing.
-use mathlib.Core.Path.{_≡_, ap, _∙_}
+use mathlib.Core.Path.{ap, _∙_}
 use mathlib.Core.List.{List}
 use Prim.Native.Nat.{ℕ}
 use denote.Ref.{now}

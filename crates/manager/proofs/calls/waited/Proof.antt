@@ -1,9 +1,9 @@
 -- `calls::waited` meets its contract: a wait makes no more checks than it asks for, so their number is a byte. Assumes nothing.
-use mathlib.Core.Path.{_≡_, sym, ap, _∙_}
+use mathlib.Core.Path.{sym, _∙_}
 use native.Mathlib.Omega.{arith}
 use borrow.Author.Tests.{eq-eqb, ne-eqb}
 use denote.Ref.{now}
-use Rattle.rules.specs.Wait.{endingCheck, ranOut, checksOf, microsOf}
+use Rattle.rules.specs.Wait.{ranOut, checksOf, microsOf}
 use Rattle.status.proofs.Runs.{ending-within}
 use borrow.Author.Needs.{needs}
 use Rattle.manager.proofs.calls.waited.Statement.{statement}

@@ -1,5 +1,4 @@
 -- `lines::append_answer` meets its contract: `-` where nothing was written. Assumes nothing.
-use mathlib.Core.Path.{_≡_, sym, ap, _∙_}
 use borrow.Author.Tests.{eq-eqb, ne-eqb}
 use Rattle.recording.specs.Lines.{answerText}
 use borrow.Author.Needs.{needs}

@@ -1,12 +1,8 @@
 -- `lines::append_number` meets its contract: the digits, and a space behind them. Assumes nothing.
-use Prim.Native.Nat.{ℕ, _+_, _≤_}
-use mathlib.Core.Path.{_≡_, sym, ap, _∙_}
-use mathlib.Core.List.{List, [], _∷_, _++_}
+use mathlib.Core.List.{[], _∷_}
 use native.Mathlib.Omega.{arith}
-use native.Mathlib.Nat.{add-assoc}
-use lib.ListN.{length, length-append}
 use denote.Ref.{now}
-use Rattle.recording.specs.Lines.{decimalIn, laid}
+use Rattle.recording.specs.Lines.{decimalIn}
 use Rattle.recording.proofs.Laid.{laid-both, length-decimal}
 use borrow.Author.Needs.{needs}
 use Rattle.recording.proofs.lines.append_number.Statement.{statement}

@@ -1,10 +1,9 @@
 -- `lines::decimal` meets its contract. The loop's invariant: the digits of what is left, with those put down, are the number's.
 -- Assumes nothing.
-use Prim.Native.Nat.{ℕ, _+_, _/_, _%_, _^_, _≤_, _<_, _-_}
-use mathlib.Core.Path.{_≡_, refl, sym, ap, _∙_}
-use mathlib.Core.List.{List, _++_}
+use Prim.Native.Nat.{_+_, _%_, _^_, _≤_, _<_, _-_}
+use mathlib.Core.Path.{_≡_, _∙_}
+use mathlib.Core.List.{_++_}
 use native.Mathlib.Omega.{arith}
-use borrow.Author.Needs.{needs}
 use lib.ListN.{length, set, drop, length-set}
 use denote.Ref.{now}
 use Rattle.recording.specs.Lines.{decimalIn}

@@ -1,12 +1,11 @@
 -- `lines::message_line` meets its contract: the message call with a buffer of 29 zeros, and its line laid over the start. Assumes
 -- nothing.
 use Prim.Native.Nat.{ℕ, _≤_}
-use mathlib.Core.Path.{_≡_, refl, sym, ap, _∙_, subst⁻¹}
-use mathlib.Core.List.{List, [], _∷_, _++_}
+use mathlib.Core.Path.{sym, ap, _∙_, subst⁻¹}
 use native.Mathlib.Omega.{arith}
-use lib.ListN.{length, take, replicate}
+use lib.ListN.{length, replicate}
 use lib.Dec.{lit≤}
-use lib.Seq.{length-take-le, take-append-seam}
+use lib.Seq.{length-take-le}
 use denote.Ref.{now}
 use Rattle.rules.specs.declared.Outcome.{Outcome}
 use Rattle.rules.specs.declared.Outcome.the-variants.{R1, R2, N1, N2, N3, N4, N5, N6, N7, N8, R3, N9, Ok}
