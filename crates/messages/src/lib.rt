@@ -1,0 +1,134 @@
+// The message types with their sizes; whether an answer is asked for, whether a vector is kept, and
+// the operands of a wait; the numbers of outcomes and verdicts. The rules are document 01's tables,
+// in rules/specs. Each function gives what the definition that its contract names gives, for any
+// input.
+ghost use mathlib.Core.Path.{_≡_};
+ghost use Rattle.rules.specs.Message.{kindOf, typeNumber, sizeOf, answerAsked, waitIn};
+ghost use Rattle.rules.specs.AccessList.{verdictNumber};
+ghost use Rattle.rules.specs.Outcome.{outcomeNumber};
+ghost use Rattle.rules.specs.Flags.{keepsVector};
+use rules::Kind;
+use rules::Outcome;
+use rules::Verdict;
+use rules::Wait;
+use wire::byte_at;
+use wire::u32_at;
+
+// What a message asks for, by the number of its type.
+pub fn kind_of(number: u16) -> Kind
+    ensures { λ r. ⌜ r ≡ kindOf number ⌝ }
+{
+    match number {
+        0xC000 => Kind::Request,
+        0xC001 => Kind::Release,
+        0xC005 => Kind::Handover,
+        0xC100 => Kind::SetConfig,
+        0xC101 => Kind::SetControl,
+        0xC120 => Kind::AuthBoot,
+        0xC400 => Kind::GetStatus,
+        0xC401 => Kind::WaitStatus,
+        _ => Kind::Other,
+    }
+}
+
+// The number of a kind's type; 0, which is no type, for all others.
+pub fn type_number(kind: Kind) -> u16
+    ensures { λ r. ⌜ r ≡ typeNumber kind ⌝ }
+{
+    match kind {
+        Kind::Request => 0xC000,
+        Kind::Release => 0xC001,
+        Kind::Handover => 0xC005,
+        Kind::SetConfig => 0xC100,
+        Kind::SetControl => 0xC101,
+        Kind::AuthBoot => 0xC120,
+        Kind::GetStatus => 0xC400,
+        Kind::WaitStatus => 0xC401,
+        Kind::Other => 0,
+    }
+}
+
+// The size of a type's structure, with the header.
+pub fn size_of(kind: Kind) -> usize
+    ensures { λ r. ⌜ r ≡ sizeOf kind ⌝ }
+{
+    match kind {
+        Kind::Request => 9,
+        Kind::Release => 9,
+        Kind::Handover => 10,
+        Kind::SetConfig => 25,
+        Kind::SetControl => 17,
+        Kind::AuthBoot => 16,
+        Kind::GetStatus => 9,
+        Kind::WaitStatus => 29,
+        Kind::Other => 0,
+    }
+}
+
+// Document 01's number of an outcome: 0 for OK, k for Nk, 100 + k for Rk.
+pub fn outcome_number(outcome: Outcome) -> u32
+    ensures { λ r. ⌜ r ≡ outcomeNumber outcome ⌝ }
+{
+    match outcome {
+        Outcome::R1 => 101,
+        Outcome::R2 => 102,
+        Outcome::N1 => 1,
+        Outcome::N2 => 2,
+        Outcome::N3 => 3,
+        Outcome::N4 => 4,
+        Outcome::N5 => 5,
+        Outcome::N6 => 6,
+        Outcome::N7 => 7,
+        Outcome::N8 => 8,
+        Outcome::R3 => 103,
+        Outcome::N9 => 9,
+        Outcome::Ok => 0,
+    }
+}
+
+// Document 01's number of a verdict: 0 for an accepted list, k for Ak.
+pub fn verdict_number(verdict: Verdict) -> u32
+    ensures { λ r. ⌜ r ≡ verdictNumber verdict ⌝ }
+{
+    match verdict {
+        Verdict::Accepted => 0,
+        Verdict::A1 => 1,
+        Verdict::A2 => 2,
+        Verdict::A3 => 3,
+        Verdict::A4 => 4,
+        Verdict::A5 => 5,
+        Verdict::A6 => 6,
+        Verdict::A7 => 7,
+        Verdict::A8 => 8,
+    }
+}
+
+// Whether the message asks for an answer: flag bit 1.
+pub fn answer_asked(message: &[u8]) -> bool
+    ensures { λ r. ⌜ r ≡ answerAsked (now (message .entry)) ⌝ }
+{
+    u32_at(message, 4) / 2 % 2 == 1
+}
+
+// Whether the clear word of set config says that the vector is neither checked nor stored: bit 28.
+pub fn keeps_vector(clear: u32) -> bool
+    ensures { λ r. ⌜ r ≡ keepsVector clear ⌝ }
+{
+    clear / 0x10000000 % 2 == 1
+}
+
+// The operands of a wait.
+pub fn wait_in(message: &[u8]) -> Wait
+    ensures { λ r. ⌜ r ≡ waitIn (now (message .entry)) ⌝ }
+{
+    Wait {
+        waits: byte_at(message, 9),
+        matches: byte_at(message, 10),
+        delay: byte_at(message, 11),
+        before: byte_at(message, 12),
+        allset: u32_at(message, 13),
+        anyset: u32_at(message, 17),
+        allclear: u32_at(message, 21),
+        anyclear: u32_at(message, 25),
+    }
+}
