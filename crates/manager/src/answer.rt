@@ -3,15 +3,15 @@ ghost use mathlib.Core.Path.{_≡_};
 ghost use lib.ListN.{length, getD};
 ghost use Rattle.rules.specs.Answer.{answerBytes, bufferAfter};
 ghost use Rattle.manager.specs.Decision.{fitted};
+use answers::header;
+use answers::put;
+use answers::status_answer;
+use messages::answer_asked;
+use messages::kind_of;
+use messages::outcome_number;
+use messages::type_number;
 use rules::Outcome;
 use rules::Record;
-use wire::answer_asked;
-use wire::header;
-use wire::kind_of;
-use wire::outcome_number;
-use wire::put;
-use wire::status_answer;
-use wire::type_number;
 use wire::u16_at;
 
 // The first status word, which is the status now; 0 where there is none.

@@ -18,6 +18,10 @@ use access::is_listed;
 use board::ROWS;
 use board::is_active;
 use board::row_of;
+use messages::kind_of;
+use messages::size_of;
+use messages::type_number;
+use messages::wait_in;
 use records::effect;
 use records::load;
 use records::store;
@@ -31,11 +35,7 @@ use rules::Verdict;
 use rules::Wait;
 use status::ending_check;
 use wire::byte_at;
-use wire::kind_of;
-use wire::size_of;
-use wire::type_number;
 use wire::u16_at;
-use wire::wait_in;
 
 // A refusal: it reports no checks and leaves the record as it was.
 fn refused(outcome: Outcome, state: Record) -> Decision

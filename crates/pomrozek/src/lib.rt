@@ -5,8 +5,8 @@ ghost use Prim.Native.Nat.{_≤_};
 ghost use Rattle.pomrozek.specs.Exported.{ExportedList, ExportedMessage};
 use manager::message;
 use manager::offer_list;
-use wire::outcome_number;
-use wire::verdict_number;
+use messages::outcome_number;
+use messages::verdict_number;
 
 // Offers an access list and gives the verdict's number: 0 accepted, k for Ak.
 #[no_mangle]

@@ -8,9 +8,9 @@ ghost use Rattle.recording.specs.Lines.{outcomeName, verdictName, decima
 ghost use Rattle.recording.specs.Played.{PlayedList, PlayedMessage};
 use manager::message;
 use manager::offer_list;
+use messages::outcome_number;
+use messages::verdict_number;
 use wire::byte_at;
-use wire::outcome_number;
-use wire::verdict_number;
 
 // Lays `bytes` over the line.
 fn append(line: &mut [u8], at: usize, bytes: &[u8]) -> usize

@@ -2,10 +2,10 @@
 ghost use mathlib.Core.Path.{_≡_};
 ghost use Rattle.rules.specs.Flags.{newWord};
 ghost use Rattle.rules.specs.Effect.{heldBy, withConfig, withControl, effectOf};
+use messages::keeps_vector;
 use rules::Kind;
 use rules::Record;
 use wire::byte_at;
-use wire::keeps_vector;
 use wire::u32_at;
 
 // The record with `host` as its controller, 0 for none; the other fields are kept.

@@ -1,12 +1,12 @@
 // Replays a recorded session: reads tagged fields from standard input, carries each out, and prints
 // its line to standard output. All that matters is in the crates below; this moves bytes.
+use answers::put;
 use io::write_all;
 use recording::Found;
 use recording::find;
 use recording::list_line;
 use recording::message_line;
 use recording::take_words;
-use wire::put;
 ghost use Prim.Native.Nat.{_+_, _≤_};
 ghost use lib.ListN.{length};
 ghost use mathlib.Core.Path.{_≡_};

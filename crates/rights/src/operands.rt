@@ -11,12 +11,12 @@ ghost use Rattle.access.specs.Memory.{entryAt};
 use access::is_permitted;
 use board::class_at;
 use board::mask_of;
+use messages::keeps_vector;
+use messages::wait_in;
 use rules::Kind;
 use rules::Wait;
 use wire::byte_at;
-use wire::keeps_vector;
 use wire::u32_at;
-use wire::wait_in;
 
 // The bits that a clear word may name: the mask, and for config bit 28 too.
 fn clear_mask(word: usize, mask: u32) -> u32
