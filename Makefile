@@ -1,11 +1,16 @@
 # `make demo` proves and builds the replay program and replays the worked session; `make test` passes everything.
-.PHONY: demo test measure
+.PHONY: demo test quick measure
 
 demo:
 	@scripts/demo
 
 test:
 	@scripts/test
+
+# The loop of the daily work: what changed is proved, and the must-fail edits are tried over incremental folders; CRATES='board status'
+# tries those of two crates alone. Not the verdict.
+quick:
+	@scripts/quick $(CRATES)
 
 # Instructions per message and time of a million messages, beside the second implementation.
 measure:
