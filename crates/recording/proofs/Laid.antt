@@ -2,7 +2,7 @@
 use Prim.Native.Nat.{ℕ, zero, suc, _+_, _*_, _-_, _/_, _%_, _^_, _≤_, _<_}
 use mathlib.Core.Path.{_≡_, refl, sym, ap, ap₂, _∙_}
 use mathlib.Core.List.{List, [], _∷_, _++_, append-assoc, append-nil}
-use native.Mathlib.Nat.{add-assoc, pow-suc}
+use native.Mathlib.Nat.{add-assoc, add-zero, pow-suc}
 use native.Mathlib.Omega.{arith}
 use lib.ListN.{length, getD, set, take, drop, length-append, length-drop, length-set, drop-of-length-le}
 use lib.Seq.{take-all, getD-set-same, drop-set-lt, set-at, drop-cons, drop-drop, take-at, take-suc, append-snoc, length-take-le, drop-append-add, paste-zero}
@@ -97,6 +97,18 @@ decimal-digit k n h = rw (le-ltb n 10 h)
 pub decimal-last : (k n : ℕ) → n < 10 → decimalIn (suc k) n ≡ (48 + n) ∷ []
 unfolding decimalIn
 decimal-last k n h = rw (lt-ltb n 10 h)
+
+-- a number of one digit, and the space behind it
+pub laid-digit : (d : List ℕ) (at n : ℕ) → at + 2 ≤ length d → n < 10
+    → (at + 2 ≡ at + length (decimalIn 10 n ++ (32 ∷ [])))
+    × (set (set d at (48 + n)) (at + 1) 32 ≡ laid d at (decimalIn 10 n ++ (32 ∷ [])))
+laid-digit d at n fits small =
+    rw (decimal-last 9 n small) (
+      refl,
+      ap₂ (λ (l : List ℕ) (k : ℕ). set (set l k (48 + n)) (at + 1) 32) (laid-none d at) (sym (add-zero at))
+          ∙ ap (λ (l : List ℕ). set l (at + 1) 32) (laid-more d at [] (48 + n) (omega arith))
+          ∙ laid-more d at ((48 + n) ∷ []) 32 (omega arith),
+    )
 
 -- what is left fits the places that are left
 pub places-left : (i n : ℕ) → 10 ≤ n → n < 10 ^ i → (1 < i) × (n / 10 < 10 ^ (i - 1))

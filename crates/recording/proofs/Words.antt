@@ -38,13 +38,6 @@ taken-at body i few h =
     ∙ words-from-at body 0 (length body / 4) i h
     ∙ ap (λ (k : ℕ). u32At body (4 * k)) (zero-add i)
 
--- a word at the start of a part is the word at its place in the whole
-pub word-in-part : (body : List ℕ) (k : ℕ) → u32At (take (length body - k) (drop k body)) 0 ≡ u32At body k
-word-in-part body k =
-    let whole : take (length body - k) (drop k body) ≡ drop k body = take-all (length body - k) (drop k body) (rw length-drop (omega arith)) in
-    ap (λ (l : List ℕ). u32At l 0) whole
-    ∙ rw (getD-drop k body 0 0, getD-drop k body 1 0, getD-drop k body 2 0, getD-drop k body 3 0) (rw (add-zero k))
-
 -- laid from the start on
 pub laid-start : (held text : List ℕ) → laid held 0 text ≡ bufferAfter text held
 laid-start held text = ap (λ (n : ℕ). text ++ drop n held) (zero-add (length text))

@@ -1,17 +1,23 @@
 // The next field of a recording, and the status words that a field holds.
 ghost use mathlib.Core.Path.{_≡_};
-ghost use Prim.Native.Nat.{_≤_, _<_};
+ghost use Prim.Native.Nat.{_+_, _*_, _≤_, _<_};
 ghost use lib.ListN.{length, take};
 ghost use Rattle.rules.specs.Answer.{bufferAfter};
 ghost use Rattle.recording.specs.Fields.{tagGood, lengthGood, foundAt, wordsOf};
 use crate::Found;
-use wire::u32_at;
 
 // A byte as a wider number.
 fn wide(byte: u8) -> u16
     ensures { λ r. ⌜ (r ≡ byte) × (r < 256) ⌝ }
 {
     byte as u16
+}
+
+// The number that four bytes say, lowest first. From four bytes in a row it becomes one load.
+fn joined(a: u8, b: u8, c: u8, d: u8) -> u32
+    ensures { λ r. ⌜ r ≡ a + 256 * b + 65536 * c + 16777216 * d ⌝ }
+{
+    a as u32 + 256 * (b as u32) + 65536 * (c as u32) + 16777216 * (d as u32)
 }
 
 // Whether a tag is one of the three.
@@ -25,9 +31,13 @@ fn tag_good(tag: u8) -> bool
 fn length_good(tag: u8, length: u16) -> bool
     ensures { λ r. ⌜ r ≡ lengthGood tag length ⌝ }
 {
-    ((length <= 512) & (tag == 1))
-        | ((length <= 1020) & (length % 4 == 0) & (tag == 2))
-        | ((1 <= length) & (length <= 512) & (tag == 3))
+    if tag == 1 {
+        return length <= 512;
+    }
+    if tag == 2 {
+        return (length <= 1020) & (length % 4 == 0);
+    }
+    (1 <= length) & (length <= 512) & (tag == 3)
 }
 
 // What stands at place `at` of the buffer.
@@ -70,7 +80,8 @@ pub fn take_words(body: &[u8], words: &mut [u32; 255]) -> usize
         if i == 255 {
             return i;
         }
-        memory[i] = u32_at(&body[4 * i..], 0);
+        let at = 4 * i;
+        memory[i] = joined(body[at], body[at + 1], body[at + 2], body[at + 3]);
         i += 1;
     }
     i

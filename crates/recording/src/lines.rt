@@ -49,7 +49,8 @@ fn glyph(d: u8) -> u8
     requires { ⌜ d < 16 ⌝ }
     ensures { λ r. ⌜ r ≡ digit d ⌝ }
 {
-    if d < 10 { 48 + d } else { 87 + d }
+    let gap = if d < 10 { 0 } else { 39 };
+    48 + d + gap
 }
 
 // Lays bytes over the line in hexadecimal, two digits for each.
@@ -68,7 +69,7 @@ fn append_hex(line: &mut [u8], at: usize, bytes: &[u8]) -> usize
 }
 
 // Lays a number in decimal over the line, and a space behind it.
-fn append_number(line: &mut [u8], at: usize, number: u32) -> usize
+fn append_digits(line: &mut [u8], at: usize, number: u32) -> usize
     requires { ⌜ at + 11 ≤ length (now line) ⌝ }
     ensures { λ r. ⌜ r ≡ at + length (decimalOf number ++ (32 ∷ [])) ⌝ }
     ensures { λ _. ⌜ now (line .exit) ≡ laid (now (line .entry)) at (decimalOf number ++ (32 ∷ [])) ⌝ }
@@ -77,6 +78,20 @@ fn append_number(line: &mut [u8], at: usize, number: u32) -> usize
     let first = decimal(number, &mut digits);
     let next = append(line, at, &digits[first..]);
     append(line, next, b" ")
+}
+
+// The same; a number below ten, as most are, is one digit.
+fn append_number(line: &mut [u8], at: usize, number: u32) -> usize
+    requires { ⌜ at + 11 ≤ length (now line) ⌝ }
+    ensures { λ r. ⌜ r ≡ at + length (decimalOf number ++ (32 ∷ [])) ⌝ }
+    ensures { λ _. ⌜ now (line .exit) ≡ laid (now (line .entry)) at (decimalOf number ++ (32 ∷ [])) ⌝ }
+{
+    if number < 10 {
+        line[at] = 48 + number as u8;
+        line[at + 1] = b' ';
+        return at + 2;
+    }
+    append_digits(line, at, number)
 }
 
 // Lays an answer over the line: in hexadecimal, or `-` where there is none.

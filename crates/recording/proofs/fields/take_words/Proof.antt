@@ -11,7 +11,7 @@ use lib.Seq.{take-all}
 use denote.Ref.{now}
 use Rattle.recording.specs.Lines.{laid}
 use Rattle.recording.proofs.Laid.{laid-none, laid-next}
-use Rattle.recording.proofs.Words.{taken, taken-length, taken-at, word-in-part, laid-start}
+use Rattle.recording.proofs.Words.{taken, taken-length, taken-at, laid-start}
 use Rattle.recording.proofs.fields.take_words.Statement.{statement}
 use Rattle.recording.proofs.fields.take_words.Tie as tie
 
@@ -36,20 +36,32 @@ returns c =
       (omega arith, l .inv .2 ∙ ap (laid (now (a .words)) 0) (take-all (l .i) (taken body) all) ∙ laid-start (now (a .words)) (taken body)),
     )
 
-mul-u32-at : tie.Need-mul-u32-at Inv-loop μ-loop
-mul-u32-at c = omega arith
+mul-at : tie.Need-mul-at Inv-loop μ-loop
+mul-at c = omega arith
 
-sub-u32-at : tie.Need-sub-u32-at Inv-loop μ-loop
-sub-u32-at c = omega arith
+shared-slice-read-joined : tie.Need-shared-slice-read-joined Inv-loop μ-loop
+shared-slice-read-joined c = omega arith
 
-part-u32-at-start : tie.Need-part-u32-at-start Inv-loop μ-loop
-part-u32-at-start c = omega arith
+add-joined : tie.Need-add-joined Inv-loop μ-loop
+add-joined c = omega arith
 
-part-u32-at-end : tie.Need-part-u32-at-end Inv-loop μ-loop
-part-u32-at-end c = omega arith
+shared-slice-read-joined-2 : tie.Need-shared-slice-read-joined-2 Inv-loop μ-loop
+shared-slice-read-joined-2 c = omega arith
 
-u32-at-requires : tie.Need-u32-at-requires Inv-loop μ-loop
-u32-at-requires c κs = search needs
+add-joined-2 : tie.Need-add-joined-2 Inv-loop μ-loop
+add-joined-2 c = omega arith
+
+shared-slice-read-joined-3 : tie.Need-shared-slice-read-joined-3 Inv-loop μ-loop
+shared-slice-read-joined-3 c = omega arith
+
+add-joined-3 : tie.Need-add-joined-3 Inv-loop μ-loop
+add-joined-3 c = omega arith
+
+shared-slice-read-joined-4 : tie.Need-shared-slice-read-joined-4 Inv-loop μ-loop
+shared-slice-read-joined-4 c = omega arith
+
+joined-requires : tie.Need-joined-requires Inv-loop μ-loop
+joined-requires c κs = search needs
 
 mul-memory : tie.Need-mul-memory Inv-loop μ-loop
 mul-memory c = omega arith
@@ -65,12 +77,12 @@ loop-less c = omega arith
 
 loop-again : tie.Need-loop-again Inv-loop μ-loop
 loop-again c =
-    let a = c .before .before .before .before .before .before .before .args in
-    let l = c .before .before .before .before .loop in
+    let a = c .before .before .before .before .before .before .before .before .before .before .args in
+    let l = c .before .before .before .before .before .before .before .loop in
     let body = now (a .body) in
     let held = now (a .words) in
-    let word : c .u32-at .result ≡ getD (taken body) (l .i) 0 =
-    c .u32-at .ensures ∙ word-in-part body (4 * l .i) ∙ sym (taken-at body (l .i) (omega arith) (omega arith))
+    let word : c .joined .result ≡ getD (taken body) (l .i) 0 =
+    c .joined .ensures ∙ sym (taken-at body (l .i) (omega arith) (omega arith))
     in (
       omega arith,
       omega arith,
@@ -79,7 +91,7 @@ loop-again c =
           ∙ ap (λ (n : ℕ). set (laid held 0 (take (l .i) (taken body))) n (getD (taken body) (l .i) 0)) (sym (zero-add (l .i)))
           ∙ laid-next held (taken body) 0 (l .i) (omega (arith, taken-length body)) (omega (arith, taken-length body))
           ∙ ap (λ (n : ℕ). laid held 0 (take n (taken body))) (sym (add-one (l .i))),
-      length-set (l .memory) (l .i) (c .u32-at .result) ∙ l .inv .3,
+      length-set (l .memory) (l .i) (c .joined .result) ∙ l .inv .3,
       l .inv .4,
     )
 
@@ -102,11 +114,15 @@ take-words-spec =
     μ-loop
     loop-holds
     returns
-    mul-u32-at
-    sub-u32-at
-    part-u32-at-start
-    part-u32-at-end
-    u32-at-requires
+    mul-at
+    shared-slice-read-joined
+    add-joined
+    shared-slice-read-joined-2
+    add-joined-2
+    shared-slice-read-joined-3
+    add-joined-3
+    shared-slice-read-joined-4
+    joined-requires
     mul-memory
     slice-write-memory
     add-i

@@ -1,61 +1,57 @@
--- `lines::append_number` meets its contract: the digits, and a space behind them. Assumes nothing.
-use mathlib.Core.List.{[], _∷_}
-use native.Mathlib.Omega.{arith}
+-- `lines::append_number` meets its contract: one digit, or as many as there are. Assumes nothing.
 use denote.Ref.{now}
-use Rattle.recording.specs.Lines.{decimalIn}
-use Rattle.recording.proofs.Laid.{laid-both, length-decimal}
+use native.Mathlib.Omega.{arith}
+use lib.ListN.{length-set}
+use Rattle.recording.proofs.Laid.{laid-digit}
 use borrow.Author.Needs.{needs}
 use Rattle.recording.proofs.lines.append_number.Statement.{statement}
 use Rattle.recording.proofs.lines.append_number.Tie as tie
 
-slice-aggregate-decimal : tie.Need-slice-aggregate-decimal
-slice-aggregate-decimal c = search needs
+cast-line : tie.Need-cast-line
+cast-line c = search needs
 
-decimal-requires : tie.Need-decimal-requires
-decimal-requires c κs = search needs
+add-line : tie.Need-add-line
+add-line c = search needs
 
-sub-append : tie.Need-sub-append
-sub-append c = search needs
+slice-write-line : tie.Need-slice-write-line
+slice-write-line c = search needs
 
-part-append-start : tie.Need-part-append-start
-part-append-start c = search needs
+add-line-2 : tie.Need-add-line-2
+add-line-2 c = search needs
 
-part-append-end : tie.Need-part-append-end
-part-append-end c = search needs
+slice-write-line-2 : tie.Need-slice-write-line-2
+slice-write-line-2 c = simp length-set (omega arith)
 
-append-requires : tie.Need-append-requires
-append-requires c κs = search needs
-
-slice-aggregate-append : tie.Need-slice-aggregate-append
-slice-aggregate-append c = search needs
-
-append-requires-2 : tie.Need-append-requires-2
-append-requires-2 c κs = search needs
+add-result : tie.Need-add-result
+add-result c = search needs
 
 same-length : tie.Need-same-length
-same-length c = search needs
+same-length c = simp length-set
 
 returns : tie.Need-returns
-returns c =
-    let a = c .before .before .before .before .before .before .before .before .before .before .before .before .before .before .before .args in
-    let first = c .before .before .before .before .before .before .before .append .ensures in
-    let digits = c .before .before .before .before .before .before .before .before .before .before .before .before .decimal .ensures .1 in
-    let few = length-decimal 10 (a .number) in
-    laid-both (now (a .line)) _ _ (a .at) _ _ (decimalIn 10 (a .number)) (32 ∷ []) (omega arith) (rw digits at (first .0)) (rw digits at (first .1))
-    (c .before .before .append2 .ensures .0)
-    (c .before .before .append2 .ensures .1)
+returns c = laid-digit _ _ _ (omega arith) (omega arith)
+
+append-digits-requires : tie.Need-append-digits-requires
+append-digits-requires c κs = search needs
+
+same-length-2 : tie.Need-same-length-2
+same-length-2 c = search needs
+
+returns-2 : tie.Need-returns-2
+returns-2 c = search needs
 
 pub append-number-spec : {M : Type 1} → statement M
 append-number-spec =
     tie.close
     (tie.spec
-    slice-aggregate-decimal
-    decimal-requires
-    sub-append
-    part-append-start
-    part-append-end
-    append-requires
-    slice-aggregate-append
-    append-requires-2
+    cast-line
+    add-line
+    slice-write-line
+    add-line-2
+    slice-write-line-2
+    add-result
     same-length
-    returns)
+    returns
+    append-digits-requires
+    same-length-2
+    returns-2)
