@@ -53,10 +53,10 @@ messageLine r bytes =
     ++ (10 ∷ [])
 
 -- `bad record` and `cut record`
-unfoldable pub badLine : List ℕ
+abbrev pub badLine : List ℕ
 badLine = 98 ∷ 97 ∷ 100 ∷ 32 ∷ 114 ∷ 101 ∷ 99 ∷ 111 ∷ 114 ∷ 100 ∷ 10 ∷ []
 
-unfoldable pub cutLine : List ℕ
+abbrev pub cutLine : List ℕ
 cutLine = 99 ∷ 117 ∷ 116 ∷ 32 ∷ 114 ∷ 101 ∷ 99 ∷ 111 ∷ 114 ∷ 100 ∷ 10 ∷ []
 
 -- a text laid over what a buffer held, from place `at` on

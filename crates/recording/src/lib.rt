@@ -5,6 +5,8 @@ mod lines;
 
 pub use fields::find;
 pub use fields::take_words;
+pub use lines::bad_line;
+pub use lines::cut_line;
 pub use lines::list_line;
 pub use lines::message_line;
 

@@ -4,7 +4,7 @@ ghost use mathlib.Core.List.{_++_, _∷_, []};
 ghost use mathlib.Core.Path.{_≡_};
 ghost use Prim.Native.Nat.{_+_, _-_, _*_, _≤_, _<_};
 ghost use lib.ListN.{length, take, drop};
-ghost use Rattle.recording.specs.Lines.{outcomeName, verdictName, decimalOf, glyph as digit, hexOf, answerText, laid};
+ghost use Rattle.recording.specs.Lines.{outcomeName, verdictName, decimalOf, glyph as digit, hexOf, answerText, badLine, cutLine, laid};
 ghost use Rattle.recording.specs.Played.{PlayedList, PlayedMessage};
 use manager::message;
 use manager::offer_list;
@@ -131,13 +131,17 @@ fn name_text(number: u32) -> [u8; 3]
     [b'R', (number - 52) as u8, b' ']
 }
 
-// Carries out a list field, and writes its line. Gives the line's length.
-pub fn list_line(access: &mut [u16; 17], body: &[u8], line: &mut [u8; 96]) -> usize
+// Carries out a list field, and writes its line over the start of `line`. Gives the line's length.
+// Where there is no room for a line, nothing is carried out.
+pub fn list_line(access: &mut [u16; 17], body: &[u8], line: &mut [u8]) -> usize
     ensures { λ r. ⌜ PlayedList (now (access .entry)) (now (body .entry)) (now (line .entry)) (now (access .exit)) (now (line .exit)) r ⌝ }
 {
+    if line.len() < 96 {
+        return 0;
+    }
     let number = verdict_number(offer_list(access, body));
     let text = list_text(number);
-    append(&mut line[..], 0, &text)
+    append(line, 0, &text)
 }
 
 // All of a field's body but its first byte.
@@ -152,7 +156,7 @@ fn after_first(body: &[u8]) -> &[u8]
 
 // The line of a message.
 fn write_line(line: &mut [u8], number: u32, checks: u32, micros: u32, bytes: &[u8]) -> usize
-    requires { ⌜ length (now line) ≡ 96 ⌝ }
+    requires { ⌜ 96 ≤ length (now line) ⌝ }
     requires { ⌜ number ≤ 103 ⌝ }
     requires { ⌜ length (now bytes) ≤ 29 ⌝ }
     ensures { λ r. ⌜ r ≡ length ((outcomeName number ++ (32 ∷ [])) ++ (decimalOf checks ++ (32 ∷ [])) ++ (decimalOf micros ++ (32 ∷ [])) ++ answerText (now (bytes .entry)) ++ (10 ∷ [])) ⌝ }
@@ -167,16 +171,20 @@ fn write_line(line: &mut [u8], number: u32, checks: u32, micros: u32, bytes: &[u
     append(line, after_answer, b"\n")
 }
 
-// Carries out a message field with these status words, and writes its line. Gives the line's length.
+// Carries out a message field with these status words, and writes its line over the start of `line`.
+// Gives the line's length. Where there is no room for a line, nothing is carried out.
 pub fn message_line(
     access: &[u16; 17],
     records: &mut [u32; 20],
     body: &[u8],
     status: &[u32],
-    line: &mut [u8; 96],
+    line: &mut [u8],
 ) -> usize
     ensures { λ r. ⌜ PlayedMessage (now (access .entry)) (now (records .entry)) (now (body .entry)) (now (status .entry)) (now (line .entry)) (now (records .exit)) (now (line .exit)) r ⌝ }
 {
+    if line.len() < 96 {
+        return 0;
+    }
     let mut answer = [0u8; 29];
     let channel = byte_at(body, 0);
     let told = message(
@@ -190,11 +198,43 @@ pub fn message_line(
     let outcome = told.outcome;
     let number = outcome_number(outcome);
     let written = told.written;
-    write_line(
-        &mut line[..],
-        number,
-        told.checks,
-        told.micros,
-        &answer[..written],
-    )
+    write_line(line, number, told.checks, told.micros, &answer[..written])
+}
+
+// What a bad record prints.
+pub fn bad_line() -> [u8; 11]
+    ensures { λ r. ⌜ r ≡ badLine ⌝ }
+{
+    [
+        b'b',
+        b'a',
+        b'd',
+        b' ',
+        b'r',
+        b'e',
+        b'c',
+        b'o',
+        b'r',
+        b'd',
+        b'\n',
+    ]
+}
+
+// What a field that is cut off prints.
+pub fn cut_line() -> [u8; 11]
+    ensures { λ r. ⌜ r ≡ cutLine ⌝ }
+{
+    [
+        b'c',
+        b'u',
+        b't',
+        b' ',
+        b'r',
+        b'e',
+        b'c',
+        b'o',
+        b'r',
+        b'd',
+        b'\n',
+    ]
 }

@@ -37,6 +37,9 @@ part-count-end c = search needs
 count-requires : tie.Need-count-requires
 count-requires c κs = search needs
 
+cut-line-requires : tie.Need-cut-line-requires
+cut-line-requires c κs = search needs
+
 slice-aggregate-write-all : tie.Need-slice-aggregate-write-all
 slice-aggregate-write-all c = search needs
 
@@ -70,7 +73,7 @@ play-requires : tie.Need-play-requires
 play-requires c κs = search needs
 
 move-down-requires : tie.Need-move-down-requires
-move-down-requires c κs = (le-trans (c .before .before .before .play .ensures .0) (length-part _ _), search needs)
+move-down-requires c κs = (le-trans (c .before .before .before .play .ensures .0 .0) (length-part _ _), search needs)
 
 same-length-3 : tie.Need-same-length-3
 same-length-3 c = search needs
@@ -93,6 +96,7 @@ turn-spec =
     part-count-start
     part-count-end
     count-requires
+    cut-line-requires
     slice-aggregate-write-all
     write-all-requires
     same-length

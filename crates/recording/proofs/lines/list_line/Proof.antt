@@ -13,6 +13,7 @@ use Rattle.rules.specs.declared.Verdict.{Verdict}
 use Rattle.rules.specs.declared.Verdict.the-variants.{Accepted, A1, A2, A3, A4, A5, A6, A7, A8}
 use Rattle.rules.specs.AccessList.{verdictNumber}
 use Rattle.recording.specs.Lines.{verdictName, listLine, laid}
+use Rattle.recording.proofs.Messages.{list-refused, list-played}
 use borrow.Author.Needs.{needs}
 use Rattle.recording.proofs.lines.list_line.Statement.{statement}
 use Rattle.recording.proofs.lines.list_line.Tie as tie
@@ -36,8 +37,11 @@ list-eight n = go (eqb n 0) refl
     go false e = rw e
 
 -- the line by the verdict's number
-abbrev listText : ℕ → List ℕ
-listText n = (108 ∷ 105 ∷ 115 ∷ 116 ∷ 32 ∷ []) ++ verdictName n ++ (10 ∷ [])
+abbrev numberText : ℕ → List ℕ
+numberText n = (108 ∷ 105 ∷ 115 ∷ 116 ∷ 32 ∷ []) ++ verdictName n ++ (10 ∷ [])
+
+returns : tie.Need-returns
+returns c = list-refused _ _ _ (c .if1 .taken)
 
 offer-list-requires : tie.Need-offer-list-requires
 offer-list-requires c κs = search needs
@@ -54,26 +58,31 @@ slice-aggregate-append c = search needs
 append-requires : tie.Need-append-requires
 append-requires c κs = search needs
 
-returns : tie.Need-returns
+same-length : tie.Need-same-length
+same-length c = search needs
+
+returns-2 : tie.Need-returns-2
 unfolding listLine
-returns c =
-    let told = c .before .before .before .before .before .offer-list .ensures in
-    let line = c .before .before .before .list-text .ensures ∙ ap (λ (n : ℕ). listText n) (c .before .before .before .before .verdict-number .ensures ∙ ap verdictNumber (told .verdict)) in
-    record {
-      count = c .append .ensures .0 ∙ zero-add _ ∙ ap length line;
-      text = c .append .ensures .1 ∙ ap (laid (now (c .before .before .before .before .before .before .before .before .args .line)) 0) line;
-      memory = told .memory;
-      short = omega (arith, c .append .ensures .0, ap length (c .before .before .before .list-text .ensures), list-eight (c .before .before .before .before .verdict-number .result));
-      size = search needs;
-    }
+returns-2 c =
+    let a = c .before .before .before .before .before .before .before .before .before .before .before .before .args in
+    let told = c .before .before .before .before .before .before .before .offer-list .ensures in
+    let wrote = c .before .before .append .ensures in
+    let made = c .before .before .before .before .before .list-text .ensures in
+    let line = made ∙ ap (λ (n : ℕ). numberText n) (c .before .before .before .before .before .before .verdict-number .ensures ∙ ap verdictNumber (told .verdict)) in
+    list-played (now (a .access)) (now (a .body)) (now (a .line)) _ _ _ (c .before .before .before .before .before .before .before .before .before .if1 .left) (wrote .0 ∙ zero-add _ ∙ ap length line)
+    (wrote .1 ∙ ap (laid (now (a .line)) 0) line)
+    (told .memory)
+    (omega (arith, wrote .0, ap length made, list-eight (c .before .before .before .before .before .before .verdict-number .result)))
 
 pub list-line-spec : {M : Type 1} → statement M
 list-line-spec =
     tie.close
     (tie.spec
+    returns
     offer-list-requires
     verdict-number-requires
     list-text-requires
     slice-aggregate-append
     append-requires
-    returns)
+    same-length
+    returns-2)

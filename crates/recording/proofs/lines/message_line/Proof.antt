@@ -1,9 +1,8 @@
--- `lines::message_line` meets its contract: the message call with a buffer of 29 zeros, and its line laid over the start. Assumes
--- nothing.
+-- `lines::message_line` meets its contract: the message call with a buffer of 29 zeros, and its line laid over the start. Assumes nothing.
 use Prim.Native.Nat.{ℕ, _≤_}
-use mathlib.Core.Path.{sym, ap, _∙_, subst⁻¹}
+use mathlib.Core.Path.{sym, subst⁻¹}
 use native.Mathlib.Omega.{arith}
-use lib.ListN.{length, replicate}
+use lib.ListN.{length}
 use lib.Dec.{lit≤}
 use lib.Seq.{length-take-le}
 use denote.Ref.{now}
@@ -12,8 +11,7 @@ use Rattle.rules.specs.declared.Outcome.the-variants.{R1, R2, N1, N2, N3, N4, N
 use Rattle.rules.specs.declared.Report.{Report}
 use Rattle.rules.specs.Outcome.{outcomeNumber}
 use Rattle.manager.proofs.TwoCalls.{written-short}
-use Rattle.recording.specs.Lines.{laid}
-use Rattle.recording.proofs.Messages.{line-is}
+use Rattle.recording.proofs.Messages.{message-refused, message-played}
 use borrow.Author.Needs.{needs}
 use Rattle.recording.proofs.lines.message_line.Statement.{statement}
 use Rattle.recording.proofs.lines.message_line.Tie as tie
@@ -32,6 +30,9 @@ outcome-small N8 = lit≤ tt
 outcome-small R3 = lit≤ tt
 outcome-small N9 = lit≤ tt
 outcome-small Ok = lit≤ tt
+
+returns : tie.Need-returns
+returns c = message-refused _ _ _ _ _ (c .if1 .taken)
 
 byte-at-requires : tie.Need-byte-at-requires
 byte-at-requires c κs = search needs
@@ -66,23 +67,25 @@ write-line-requires c κs =
       ),
     )
 
-returns : tie.Need-returns
-returns c =
-    let a = c .before .before .before .before .before .before .before .before .before .before .before .before .args in
-    let told = rw (c .before .before .before .before .before .before .before .before .before .byte-at .ensures, c .before .before .before .before .before .before .before .after-first .ensures) at (c .before .before .before .before .before .message .ensures) in
-    let line = line-is _ _ (c .before .before .before .before .before .message .result) _ (replicate 29 0) _ (told .report) (told .buffer) (c .before .before .before .outcome-number .ensures) in
-    record {
-      count = c .write-line .ensures .0 ∙ ap length line;
-      text = c .write-line .ensures .1 .1 ∙ ap (laid (now (a .line)) 0) line;
-      records = told .records;
-      short = c .write-line .ensures .1 .0;
-      size = search needs;
-    }
+same-length : tie.Need-same-length
+same-length c = search needs
+
+returns-2 : tie.Need-returns-2
+returns-2 c =
+    let a = c .before .before .before .before .before .before .before .before .before .before .before .before .before .before .before .before .args in
+    let call = rw (c .before .before .before .before .before .before .before .before .before .before .before .byte-at .ensures, c .before .before .before .before .before .before .before .before .before .after-first .ensures) at (c .before .before .before .before .before .before .before .message .ensures) in
+    let wrote = c .before .before .write-line .ensures in
+    message-played (now (a .access)) (now (a .records)) (now (a .body)) (now (a .status)) (now (a .line)) _ _ _
+    (c .before .before .before .before .before .before .before .message .result) _ _ (c .before .before .before .before .before .before .before .before .before .before .before .before .if1 .left) call (c .before .before .before .before .before .outcome-number .ensures)
+    (wrote .0)
+    (wrote .1 .1)
+    (wrote .1 .0)
 
 pub message-line-spec : {M : Type 1} → statement M
 message-line-spec =
     tie.close
     (tie.spec
+    returns
     byte-at-requires
     after-first-requires
     slice-aggregate-message
@@ -91,4 +94,5 @@ message-line-spec =
     array-share-prefix-answer
     slice-aggregate-write-line
     write-line-requires
-    returns)
+    same-length
+    returns-2)

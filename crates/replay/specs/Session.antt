@@ -1,0 +1,43 @@
+-- What the program promises of a session: how a whole field is carried out, by its tag, and where lines are gathered. Assumes nothing.
+use Prim.Native.Nat.{ℕ, _-_}
+use mathlib.Core.Path.{_≡_}
+use mathlib.Core.Bool.{Bool, true, false, cond}
+use mathlib.Core.List.{List}
+use lib.ListN.{length, take}
+use lib.Dec.{leb}
+use Rattle.rules.specs.Answer.{bufferAfter}
+use Rattle.recording.specs.declared.Found.{Found}
+use Rattle.recording.specs.declared.Found.the-variants.{Whole, Bad, Partial, Nothing}
+use Rattle.recording.specs.Fields.{wordsOf}
+use Rattle.recording.specs.Played.{PlayedList, PlayedMessage}
+
+-- the status words of a field stand from now on, and nothing is printed
+pub record TakenWords (body words line words′ line′ : List ℕ) (n stand : ℕ) : Type 0 where
+  pub count : stand ≡ length (take 255 (wordsOf body))
+  pub memory : words′ ≡ bufferAfter (take 255 (wordsOf body)) words
+  pub silent : n ≡ 0
+  pub kept : line′ ≡ line
+
+-- tag 1 is a list, 2 status words, any other a message with the words that stand; what a tag does not concern is kept
+pub record PlayedField (tag count : ℕ) (body access records words line access′ records′ words′ line′ : List ℕ) (n stand : ℕ) : Type 0 where
+  pub list : tag ≡ 1 → PlayedList access body line access′ line′ n
+  pub status : tag ≡ 2 → TakenWords body words line words′ line′ n stand
+  pub message : (tag ≡ 1 → ⊥) → (tag ≡ 2 → ⊥) → PlayedMessage access records body (take count words) line records′ line′ n
+  pub access-kept : (tag ≡ 1 → ⊥) → access′ ≡ access
+  pub words-kept : (tag ≡ 2 → ⊥) → (words′ ≡ words) × (stand ≡ count)
+  pub list-keeps : tag ≡ 1 → records′ ≡ records
+  pub status-keeps : tag ≡ 2 → records′ ≡ records
+
+-- a bad record
+abbrev pub isBad : Found → Bool
+isBad (Whole tag n) = false
+isBad Bad = true
+isBad Partial = false
+isBad Nothing = false
+
+-- whether a line fits behind the bytes that are gathered, and where it goes: there, or to the start once they are written
+abbrev pub roomLeft : List ℕ → ℕ → Bool
+roomLeft out used = leb 96 (length out - used)
+
+abbrev pub placeIn : List ℕ → ℕ → ℕ
+placeIn out used = cond (roomLeft out used) used 0
