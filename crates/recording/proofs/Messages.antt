@@ -1,96 +1,80 @@
 -- A field carried out, from what the two calls give: with room for a line, and without. Assumes nothing.
 use Prim.Native.Nat.{ℕ, _≤_, _<_}
-use mathlib.Core.Path.{_≡_, refl, ap, ap₂, _∙_}
-use mathlib.Core.Bool.{true, false}
-use mathlib.Core.List.{List, [], _∷_, _++_}
-use lib.ListN.{length, take, drop, replicate}
-use lib.Dec.{lit≤}
+use mathlib.Core.Path.{_≡_, refl, ap, ap₂, _∙_, subst⁻¹}
+use mathlib.Core.Bool.{true, false, _&&_}
+use mathlib.Core.List.{List}
+use native.Mathlib.Omega.{arith}
+use lib.ListN.{length, take, drop, replicate, length-take}
 use lib.Seq.{take-append-seam}
+use lib.Dec.{leb, lit≤}
+use borrow.Author.Tests.{lt-leb, le-leb}
 use Rattle.rules.specs.declared.Report.{Report}
+use Rattle.rules.specs.declared.Verdict.{Verdict}
+use Rattle.rules.specs.Bytes.{byteAt}
 use Rattle.rules.specs.Board.{ours}
 use Rattle.rules.specs.Message.{Query}
-use Rattle.rules.specs.Outcome.{outcomeNumber}
 use Rattle.rules.specs.Answer.{bufferAfter, reportOf}
 use Rattle.rules.specs.Call.{State}
 use Rattle.rules.specs.Sequence.{answerTo}
-use borrow.Author.Tests.{lt-leb, le-leb}
-use Rattle.rules.specs.Bytes.{byteAt}
 use Rattle.rules.proofs.Tests.{clash}
-use Rattle.access.specs.Memory.{accessAfter}
-use Rattle.manager.specs.Calls.{MessageCall}
-use Rattle.recording.specs.Lines.{outcomeName, decimalOf, answerText, messageLine, laid}
-use Rattle.recording.specs.Played.{hasRoom, listText, PlayedList, PlayedMessage}
-use Rattle.recording.proofs.Laid.{laid-none}
+use Rattle.manager.specs.Calls.{ListCall, MessageCall}
+use Rattle.manager.proofs.TwoCalls.{written-short}
+use Rattle.lines.specs.Lines.{listLine, messageLine, hasRoom, printed, Printed}
+use Rattle.lines.proofs.Laid.{laid-none}
+use Rattle.recording.specs.Played.{PlayedList, PlayedMessage}
 
--- the line, as the code puts it together
-abbrev pub lineText : ℕ → ℕ → ℕ → List ℕ → List ℕ
-lineText number checks micros bytes =
-    (outcomeName number ++ (32 ∷ []))
-    ++ (decimalOf checks ++ (32 ∷ []))
-    ++ (decimalOf micros ++ (32 ∷ []))
-    ++ answerText bytes
-    ++ (10 ∷ [])
-
-pub line-is : (s : State) (q : Query) (told : Report) (number : ℕ) (held buffer : List ℕ)
+-- the line of what a message call reports and leaves at the start of its buffer
+line-is : (s : State) (q : Query) (told : Report) (held buffer : List ℕ)
     → told ≡ answerTo ours s q .report
     → buffer ≡ bufferAfter (answerTo ours s q .bytes) held
-    → number ≡ outcomeNumber (told .outcome)
-    → lineText number (told .checks) (told .micros) (take (told .written) buffer)
-    ≡ messageLine (answerTo ours s q .report) (answerTo ours s q .bytes)
-unfolding answerTo reportOf messageLine
-line-is s q told number held buffer same wrote is =
+    → messageLine told (take (told .written) buffer) ≡ messageLine (answerTo ours s q .report) (answerTo ours s q .bytes)
+unfolding answerTo reportOf
+line-is s q told held buffer same wrote =
     let bytes = answerTo ours s q .bytes in
-    let part : take (told .written) buffer ≡ bytes =
-    ap₂ take (ap (λ (r : Report). r .written) same) wrote ∙ take-append-seam bytes (drop (length bytes) held)
-    in
-    ap₂ (λ (n : ℕ) (l : List ℕ). lineText n (told .checks) (told .micros) l) is part
-    ∙ ap (λ (r : Report). lineText (outcomeNumber (r .outcome)) (r .checks) (r .micros) bytes) same
+    ap₂ messageLine same
+    (ap₂ take (ap (λ (r : Report). r .written) same) wrote ∙ take-append-seam bytes (drop (length bytes) held))
 
--- ---- with room for a line, and without
-
-module _ (line : List ℕ) where
-  room-no : length line < 96 → hasRoom line ≡ false
-  room-no h = lt-leb 96 (length line) h
-
-  room-yes : 96 ≤ length line → hasRoom line ≡ true
-  room-yes h = le-leb 96 (length line) h
-
-  nothing-laid : line ≡ laid line 0 []
-  nothing-laid = laid-none line 0
+-- at most 29 bytes are written
+pub written-few : (access memory : List ℕ) (channel : ℕ) (m words held memory′ buffer : List ℕ) (told : Report)
+    → MessageCall access memory channel m words held memory′ buffer told → told .written ≤ 29
+written-few access memory channel m words held memory′ buffer told call =
+    subst⁻¹ (λ (r : Report). r .written ≤ 29) (call .report) (written-short _ _)
 
 module _ (access body line : List ℕ) where
   pub list-refused : length line < 96 → PlayedList access body line access line 0
   list-refused h =
-      let no = room-no line h in
-      record { count = rw no; text = rw no (nothing-laid line); memory = rw no; short = lit≤ tt }
+      let gone = lt-leb 96 (length line) h in
+      record { count = rw gone; text = rw gone (laid-none line 0); memory = rw gone; short = lit≤ tt }
 
-  pub list-played : (access′ line′ : List ℕ) (n : ℕ) → 96 ≤ length line
-      → n ≡ length (listText access body) → line′ ≡ laid line 0 (listText access body) → access′ ≡ accessAfter access body → n ≤ 96
+  pub list-played : (access′ line′ : List ℕ) (verdict : Verdict) (n : ℕ) → 96 ≤ length line
+      → ListCall access body access′ verdict
+      → Printed line (printed (hasRoom line) (listLine verdict)) line′ n
       → PlayedList access body line access′ line′ n
-  list-played access′ line′ n h count text memory short =
-      let yes = room-yes line h in
-      record { count = rw yes count; text = rw yes text; memory = rw yes memory; short = short }
+  list-played access′ line′ verdict n h call shown =
+      let room = le-leb 96 (length line) h in
+      let told = rw (call .verdict) at shown in
+      record { count = told .count; text = told .over; memory = rw room (call .memory); short = told .short }
 
 module _ (access memory body words line : List ℕ) where
   pub message-refused : length line < 96 → PlayedMessage access memory body words line memory line 0
   message-refused h =
-      let no = room-no line h in
-      record { count = rw no; text = rw no (nothing-laid line); records = rw no; kept = λ _. refl; short = lit≤ tt }
+      let gone = lt-leb 96 (length line) h in
+      record { count = rw gone; text = rw gone (laid-none line 0); records = rw gone; kept = λ _. refl; short = lit≤ tt }
 
-  pub message-played : (memory′ line′ buffer : List ℕ) (told : Report) (number n : ℕ) → 96 ≤ length line
+  pub message-played : (memory′ line′ buffer : List ℕ) (told : Report) (n : ℕ) → 96 ≤ length line
       → MessageCall access memory (byteAt body 0) (drop 1 body) words (replicate 29 0) memory′ buffer told
-      → number ≡ outcomeNumber (told .outcome)
-      → n ≡ length (lineText number (told .checks) (told .micros) (take (told .written) buffer))
-      → line′ ≡ laid line 0 (lineText number (told .checks) (told .micros) (take (told .written) buffer))
-      → n ≤ 96
+      → Printed line (printed (hasRoom line && leb (length (take (told .written) buffer)) 29) (messageLine told (take (told .written) buffer))) line′ n
       → PlayedMessage access memory body words line memory′ line′ n
-  message-played memory′ line′ buffer told number n h call is count text short =
-      let yes = room-yes line h in
-      let same = line-is _ _ told number (replicate 29 0) buffer (call .report) (call .buffer) is in
+  message-played memory′ line′ buffer told n h call shown =
+      let room = le-leb 96 (length line) h in
+      let wrote = written-few access memory _ _ words _ memory′ buffer told call in
+      let short : length (take (told .written) buffer) ≤ 29 = rw length-take (omega arith) in
+      let fits = le-leb (length (take (told .written) buffer)) 29 short in
+      let text = rw (fits, room, line-is _ _ told (replicate 29 0) buffer (call .report) (call .buffer)) at shown in
       record {
-        count = rw yes (count ∙ ap length same);
-        text = rw yes (text ∙ ap (laid line 0) same);
-        records = rw yes (call .records);
-        kept = clash yes;
-        short = short;
+        count = rw room (text .count);
+        text = rw room (text .over);
+        records = rw room (call .records);
+        kept = clash room;
+        short = text .short;
       }

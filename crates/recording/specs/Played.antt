@@ -2,10 +2,9 @@
 -- bytes are lent, which any line fits, nothing is carried out. Assumes nothing.
 use Prim.Native.Nat.{ℕ, _≤_}
 use mathlib.Core.Path.{_≡_}
-use mathlib.Core.Bool.{Bool, false, cond}
-use mathlib.Core.List.{List, []}
+use mathlib.Core.Bool.{false, cond}
+use mathlib.Core.List.{List}
 use lib.ListN.{length, drop, replicate}
-use lib.Dec.{leb}
 use Rattle.rules.specs.Bytes.{byteAt}
 use Rattle.rules.specs.declared.Record.{Record}
 use Rattle.rules.specs.Board.{ours}
@@ -13,23 +12,15 @@ use Rattle.rules.specs.AccessList.{verdictOf}
 use Rattle.rules.specs.Sequence.{Call, message, queryOf, next, Answer, answerTo}
 use Rattle.access.specs.Memory.{listedIn, accessAfter}
 use Rattle.records.specs.Memory.{recordsIn, stateIn}
-use Rattle.recording.specs.Lines.{listLine, messageLine, laid}
-
--- room for any line
-abbrev pub hasRoom : List ℕ → Bool
-hasRoom line = leb 96 (length line)
-
--- what is printed of a text: all of it, or nothing where there is no room
-abbrev pub printed : List ℕ → List ℕ → List ℕ
-printed line text = cond (hasRoom line) text []
+use Rattle.lines.specs.Lines.{listLine, messageLine, laid, hasRoom, printed}
 
 -- a list field: its body is offered
 abbrev pub listText : List ℕ → List ℕ → List ℕ
 listText access body = listLine (verdictOf ours (listedIn access) body)
 
 pub record PlayedList (access body line access′ line′ : List ℕ) (n : ℕ) : Type 0 where
-  pub count : n ≡ length (printed line (listText access body))
-  pub text : line′ ≡ laid line 0 (printed line (listText access body))
+  pub count : n ≡ length (printed (hasRoom line) (listText access body))
+  pub text : line′ ≡ laid line 0 (printed (hasRoom line) (listText access body))
   pub memory : access′ ≡ cond (hasRoom line) (accessAfter access body) access
   pub short : n ≤ 96
 
@@ -49,8 +40,8 @@ abbrev pub recordsAfter : List ℕ → List ℕ → List ℕ → List ℕ → Li
 recordsAfter access memory body words = next ours (stateIn access memory) (callIn body words) .records
 
 pub record PlayedMessage (access memory body words line memory′ line′ : List ℕ) (n : ℕ) : Type 0 where
-  pub count : n ≡ length (printed line (messageText access memory body words))
-  pub text : line′ ≡ laid line 0 (printed line (messageText access memory body words))
+  pub count : n ≡ length (printed (hasRoom line) (messageText access memory body words))
+  pub text : line′ ≡ laid line 0 (printed (hasRoom line) (messageText access memory body words))
   pub records : recordsIn memory′ ≡ cond (hasRoom line) (recordsAfter access memory body words) (recordsIn memory)
   pub kept : hasRoom line ≡ false → memory′ ≡ memory
   pub short : n ≤ 96

@@ -9,7 +9,7 @@ use lib.ListN.{length, getD, set, take, drop, length-drop}
 use lib.Seq.{take-suc, take-suc-set, drop-set-lt, drop-drop, getD-drop}
 use borrow.Author.Tests.{le-leb, lt-leb}
 use Rattle.rules.specs.Answer.{bufferAfter}
-use Rattle.recording.specs.Fields.{wordsOf}
+use Rattle.fields.specs.Fields.{wordsOf}
 use Rattle.recording.specs.Played.{PlayedList, PlayedMessage}
 use Rattle.replay.specs.Session.{PlayedField, roomLeft, placeIn}
 

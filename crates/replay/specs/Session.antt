@@ -6,9 +6,9 @@ use mathlib.Core.List.{List}
 use lib.ListN.{length, take}
 use lib.Dec.{leb}
 use Rattle.rules.specs.Answer.{bufferAfter}
-use Rattle.recording.specs.declared.Found.{Found}
-use Rattle.recording.specs.declared.Found.the-variants.{Whole, Bad, Partial, Nothing}
-use Rattle.recording.specs.Fields.{wordsOf}
+use Rattle.fields.specs.declared.Found.{Found}
+use Rattle.fields.specs.declared.Found.the-variants.{Whole, Bad, Partial, Nothing}
+use Rattle.fields.specs.Fields.{wordsOf}
 use Rattle.recording.specs.Played.{PlayedList, PlayedMessage}
 
 -- the status words of a field stand from now on, and nothing is printed

@@ -2,19 +2,20 @@
 // its line to standard output. All that matters is in the crates below; this moves bytes. No contract
 // can say what is read or written, so what a write answered goes through a function that promises what
 // is reported.
+use fields::Found;
+use fields::find;
+use fields::take_words;
 use io::write_all;
-use recording::Found;
-use recording::bad_line;
-use recording::cut_line;
-use recording::find;
+use lines::ROOM;
+use lines::bad_line;
+use lines::cut_line;
 use recording::list_line;
 use recording::message_line;
-use recording::take_words;
 ghost use Prim.Native.Nat.{_+_, _-_, _≤_};
 ghost use lib.ListN.{length, take, drop};
 ghost use mathlib.Core.Path.{_≡_};
 ghost use mathlib.Core.Bool.{true, false, _&&_, not};
-ghost use Rattle.recording.specs.Fields.{foundAt};
+ghost use Rattle.fields.specs.Fields.{foundAt};
 ghost use Rattle.replay.specs.Session.{PlayedField, isBad, roomLeft, placeIn};
 
 // What a field leaves: the length of the line it printed, and how many status words stand.
@@ -80,7 +81,7 @@ fn make_room(out: &[u8], used: usize) -> Gathered
     ensures { λ r. ⌜ r .used + 96 ≤ length (now (out .entry)) ⌝ }
     ensures { λ r. ⌜ (roomLeft (now (out .entry)) used ≡ true → r .good ≡ true) ⌝ }
 {
-    if 96 <= out.len() - used {
+    if ROOM <= out.len() - used {
         return Gathered { used, good: true };
     }
     after_write(write_all(1, &out[..used]))

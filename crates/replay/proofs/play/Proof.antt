@@ -6,9 +6,9 @@ use lib.ListN.{length}
 use denote.Ref.{now}
 use borrow.Author.Tests.{not-true}
 use borrow.Rule.Slice.PartMut.{same-len-mid}
-use Rattle.recording.specs.Fields.{foundAt}
+use Rattle.fields.specs.Fields.{foundAt}
 use Rattle.replay.specs.Session.{isBad}
-use Rattle.recording.proofs.Finds.{whole-ends}
+use Rattle.fields.proofs.Finds.{whole-ends}
 use borrow.Author.Needs.{needs}
 use Rattle.replay.proofs.play.Statement.{statement}
 use Rattle.replay.proofs.play.Tie as tie
