@@ -35,6 +35,13 @@ isBad Bad = true
 isBad Partial = false
 isBad Nothing = false
 
+-- what a session goes on from: the beginning of a field, with more to come, and the end of what was read
+abbrev pub waits : Found → Bool
+waits (Whole tag n) = false
+waits Bad = false
+waits Partial = true
+waits Nothing = true
+
 -- whether a line fits behind the bytes that are gathered, and where it goes: there, or to the start once they are written
 abbrev pub roomLeft : List ℕ → ℕ → Bool
 roomLeft out used = leb 96 (length out - used)

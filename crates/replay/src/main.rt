@@ -16,7 +16,7 @@ ghost use lib.ListN.{length, take, drop};
 ghost use mathlib.Core.Path.{_≡_};
 ghost use mathlib.Core.Bool.{true, false, _&&_, not};
 ghost use Rattle.fields.specs.Fields.{foundAt};
-ghost use Rattle.replay.specs.Session.{PlayedField, isBad, roomLeft, placeIn};
+ghost use Rattle.replay.specs.Session.{PlayedField, isBad, waits, roomLeft, placeIn};
 
 // What a field leaves: the length of the line it printed, and how many status words stand.
 struct Played {
@@ -151,7 +151,8 @@ fn stopped(found: Found, at: usize, words: usize, out: &[u8], used: usize) -> Pr
 }
 
 // Plays every whole field of `input`. Lines are gathered in `output` and written when it is full and
-// at the end. A bad record and a write that fails end the session.
+// at the end. A bad record and a write that fails end the session: it goes on only where no whole field
+// is left.
 fn play(
     access: &mut [u16; 17],
     records: &mut [u32; 20],
@@ -163,7 +164,7 @@ fn play(
     requires { ⌜ count ≤ 255 ⌝ }
     requires { ⌜ 96 ≤ length (now output) ⌝ }
     ensures { λ r. ⌜ (r .at ≤ length (now (input .entry))) × (r .words ≤ 255) ⌝ }
-    ensures { λ r. ⌜ (isBad (foundAt (now (input .entry)) (r .at)) ≡ true → r .goes ≡ false) ⌝ }
+    ensures { λ r. ⌜ (r .goes ≡ true → waits (foundAt (now (input .entry)) (r .at)) ≡ true) ⌝ }
 {
     let mut at = 0;
     let mut used = 0;

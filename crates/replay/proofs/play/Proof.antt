@@ -1,13 +1,21 @@
 -- `replay::play` meets its contract and ends: a whole field ends within the input, and each turn passes one. Assumes nothing.
 use Prim.Native.Nat.{ℕ, _+_, _-_, _≤_}
-use mathlib.Core.Path.{_≡_, sym, ap, subst⁻¹, _∙_}
+use mathlib.Core.Path.{_≡_, refl, sym, ap, subst⁻¹, _∙_}
+use mathlib.Core.Bool.{Bool, true, false}
+use mathlib.Core.List.{[], _∷_}
 use native.Mathlib.Omega.{arith}
 use lib.ListN.{length}
 use denote.Ref.{now}
 use borrow.Author.Tests.{not-true}
+use denote.Enum.Declared.{tagOf}
+use types.Run.{OneOf, miss}
 use borrow.Rule.Slice.PartMut.{same-len-mid}
+use Rattle.rules.proofs.Tests.{clash}
+use Rattle.fields.proofs.Found.{the-type}
+use Rattle.fields.specs.declared.Found.{Found}
+use Rattle.fields.specs.declared.Found.the-variants.{Whole, Bad, Partial, Nothing}
 use Rattle.fields.specs.Fields.{foundAt}
-use Rattle.replay.specs.Session.{isBad}
+use Rattle.replay.specs.Session.{isBad, waits}
 use Rattle.fields.proofs.Finds.{whole-ends}
 use borrow.Author.Needs.{needs}
 use Rattle.replay.proofs.play.Statement.{statement}
@@ -36,15 +44,21 @@ stopped-requires c κs = search needs
 same-length : tie.Need-same-length Inv-loop μ-loop
 same-length c = search needs
 
+-- no whole field and no bad record: there is more to come
+more-to-come : (found : Found) (goes : Bool) → OneOf (1 ∷ 2 ∷ 3 ∷ []) (tagOf the-type found) → (isBad found ≡ true → goes ≡ false)
+    → goes ≡ true → waits found ≡ true
+more-to-come (Whole tag n) goes key bad on = absurd (miss (1 ∷ 2 ∷ 3 ∷ []) 0 tt key)
+more-to-come Bad goes key bad on = clash on (bad refl)
+more-to-come Partial goes key bad on = refl
+more-to-come Nothing goes key bad on = refl
+
 returns : tie.Need-returns Inv-loop μ-loop
 returns c =
     let told = c .stopped .ensures in
-    let l = c .before .before .before .before .loop in
+    let found = c .before .before .before .find .result in
     let input = now (c .before .before .before .before .before .before .before .args .input) in
-    let same : foundAt input (c .stopped .result .at) ≡ c .before .before .before .find .result =
-    ap (foundAt input) (told .0) ∙ sym (c .before .before .before .find .ensures)
-    in
-    ((omega (arith, told .0), omega (arith, told .1)), λ t. told .2 (sym (ap isBad same) ∙ t))
+    let same : found ≡ foundAt input (c .stopped .result .at) = c .before .before .before .find .ensures ∙ ap (foundAt input) (sym (told .0)) in
+    ((omega (arith, told .0), omega (arith, told .1)), λ on. sym (ap waits same) ∙ more-to-come found _ (c .before .before .match .keys2) (told .2) on)
 
 add-start : tie.Need-add-start Inv-loop μ-loop
 add-start c = search needs
@@ -78,7 +92,7 @@ same-length-2 c = search needs
 returns-2 : tie.Need-returns-2 Inv-loop μ-loop
 returns-2 c =
     let told = c .ended .ensures in
-    ((omega (arith, told .0), omega (arith, told .1)), λ _. told .2 ∙ not-true _ (c .before .if1 .taken))
+    ((omega (arith, told .0), omega (arith, told .1)), λ on. clash on (told .2 ∙ not-true _ (c .before .if1 .taken)))
 
 sub-play-field : tie.Need-sub-play-field Inv-loop μ-loop
 sub-play-field c = search needs
