@@ -6,7 +6,7 @@ use mathlib.Core.List.{List}
 use native.Mathlib.Omega.{arith}
 use lib.ListN.{length, take, drop, replicate, length-take}
 use lib.Seq.{take-append-seam}
-use lib.Dec.{leb, lit≤}
+use lib.Dec.{leb}
 use borrow.Author.Tests.{lt-leb, le-leb}
 use Rattle.rules.specs.declared.Report.{Report}
 use Rattle.rules.specs.declared.Verdict.{Verdict}
@@ -20,7 +20,7 @@ use Rattle.rules.proofs.Tests.{clash}
 use Rattle.manager.specs.Calls.{ListCall, MessageCall}
 use Rattle.manager.proofs.TwoCalls.{written-short}
 use Rattle.lines.specs.Lines.{listLine, messageLine, hasRoom, printed, Printed}
-use Rattle.lines.proofs.Laid.{laid-none}
+use Rattle.lines.proofs.Laid.{nothing-printed}
 use Rattle.recording.specs.Played.{PlayedList, PlayedMessage}
 
 -- the line of what a message call reports and leaves at the start of its buffer
@@ -44,7 +44,7 @@ module _ (access body line : List ℕ) where
   pub list-refused : length line < 96 → PlayedList access body line access line 0
   list-refused h =
       let gone = lt-leb 96 (length line) h in
-      record { count = rw gone; text = rw gone (laid-none line 0); memory = rw gone; short = lit≤ tt }
+      record { prints = nothing-printed line _ _ gone; memory = rw gone }
 
   pub list-played : (access′ line′ : List ℕ) (verdict : Verdict) (n : ℕ) → 96 ≤ length line
       → ListCall access body access′ verdict
@@ -52,14 +52,13 @@ module _ (access body line : List ℕ) where
       → PlayedList access body line access′ line′ n
   list-played access′ line′ verdict n h call shown =
       let room = le-leb 96 (length line) h in
-      let told = rw (call .verdict) at shown in
-      record { count = told .count; text = told .over; memory = rw room (call .memory); short = told .short }
+      record { prints = rw (call .verdict) at shown; memory = rw room (call .memory) }
 
 module _ (access memory body words line : List ℕ) where
   pub message-refused : length line < 96 → PlayedMessage access memory body words line memory line 0
   message-refused h =
       let gone = lt-leb 96 (length line) h in
-      record { count = rw gone; text = rw gone (laid-none line 0); records = rw gone; kept = λ _. refl; short = lit≤ tt }
+      record { prints = nothing-printed line _ _ gone; records = rw gone; kept = λ _. refl }
 
   pub message-played : (memory′ line′ buffer : List ℕ) (told : Report) (n : ℕ) → 96 ≤ length line
       → MessageCall access memory (byteAt body 0) (drop 1 body) words (replicate 29 0) memory′ buffer told
@@ -70,11 +69,5 @@ module _ (access memory body words line : List ℕ) where
       let wrote = written-few access memory _ _ words _ memory′ buffer told call in
       let short : length (take (told .written) buffer) ≤ 29 = rw length-take (omega arith) in
       let fits = le-leb (length (take (told .written) buffer)) 29 short in
-      let text = rw (fits, room, line-is _ _ told (replicate 29 0) buffer (call .report) (call .buffer)) at shown in
-      record {
-        count = rw room (text .count);
-        text = rw room (text .over);
-        records = rw room (call .records);
-        kept = clash room;
-        short = text .short;
-      }
+      let text = line-is _ _ told (replicate 29 0) buffer (call .report) (call .buffer) in
+      record { prints = rw room (rw (fits, room, text) at shown); records = rw room (call .records); kept = clash room }

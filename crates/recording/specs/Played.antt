@@ -1,10 +1,10 @@
 -- What carrying out a whole field leaves: the line it prints, laid over the start of what is lent, and the memories. Where less than 96
 -- bytes are lent, which any line fits, nothing is carried out. Assumes nothing.
-use Prim.Native.Nat.{ℕ, _≤_}
+use Prim.Native.Nat.{ℕ}
 use mathlib.Core.Path.{_≡_}
 use mathlib.Core.Bool.{false, cond}
 use mathlib.Core.List.{List}
-use lib.ListN.{length, drop, replicate}
+use lib.ListN.{drop, replicate}
 use Rattle.rules.specs.Bytes.{byteAt}
 use Rattle.rules.specs.declared.Record.{Record}
 use Rattle.rules.specs.Board.{ours}
@@ -12,17 +12,15 @@ use Rattle.rules.specs.AccessList.{verdictOf}
 use Rattle.rules.specs.Sequence.{Call, message, queryOf, next, Answer, answerTo}
 use Rattle.access.specs.Memory.{listedIn, accessAfter}
 use Rattle.records.specs.Memory.{recordsIn, stateIn}
-use Rattle.lines.specs.Lines.{listLine, messageLine, laid, hasRoom, printed}
+use Rattle.lines.specs.Lines.{listLine, messageLine, hasRoom, printed, Printed}
 
 -- a list field: its body is offered
 abbrev pub listText : List ℕ → List ℕ → List ℕ
 listText access body = listLine (verdictOf ours (listedIn access) body)
 
 pub record PlayedList (access body line access′ line′ : List ℕ) (n : ℕ) : Type 0 where
-  pub count : n ≡ length (printed (hasRoom line) (listText access body))
-  pub text : line′ ≡ laid line 0 (printed (hasRoom line) (listText access body))
+  pub prints : Printed line (printed (hasRoom line) (listText access body)) line′ n
   pub memory : access′ ≡ cond (hasRoom line) (accessAfter access body) access
-  pub short : n ≤ 96
 
 -- a message field: its first byte is the channel host, the rest the message; the answer buffer has 29 bytes
 abbrev pub callIn : List ℕ → List ℕ → Call
@@ -40,8 +38,6 @@ abbrev pub recordsAfter : List ℕ → List ℕ → List ℕ → List ℕ → Li
 recordsAfter access memory body words = next ours (stateIn access memory) (callIn body words) .records
 
 pub record PlayedMessage (access memory body words line memory′ line′ : List ℕ) (n : ℕ) : Type 0 where
-  pub count : n ≡ length (printed (hasRoom line) (messageText access memory body words))
-  pub text : line′ ≡ laid line 0 (printed (hasRoom line) (messageText access memory body words))
+  pub prints : Printed line (printed (hasRoom line) (messageText access memory body words)) line′ n
   pub records : recordsIn memory′ ≡ cond (hasRoom line) (recordsAfter access memory body words) (recordsIn memory)
   pub kept : hasRoom line ≡ false → memory′ ≡ memory
-  pub short : n ≤ 96

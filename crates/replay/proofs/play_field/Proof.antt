@@ -18,7 +18,7 @@ returns : tie.Need-returns
 returns c =
     let a = c .before .before .before .before .before .before .before .before .args in
     let played = c .before .before .list-line .ensures in
-    ((played .short, omega arith), list-field (a .tag) (a .count) (now (a .body)) (now (a .access)) (now (a .records)) (now (a .words)) (now (a .line)) _ _ _ (c .before .before .before .before .before .if1 .taken) played)
+    ((played .prints .short, omega arith), list-field (a .tag) (a .count) (now (a .body)) (now (a .access)) (now (a .records)) (now (a .words)) (now (a .line)) _ _ _ (c .before .before .before .before .before .if1 .taken) played)
 
 take-words-requires : tie.Need-take-words-requires
 take-words-requires c κs = search needs
@@ -42,7 +42,7 @@ returns-3 : tie.Need-returns-3
 returns-3 c =
     let a = c .before .before .before .before .before .before .before .before .before .before .before .before .before .args in
     let played = c .before .before .message-line .ensures in
-    ((played .short, omega arith), message-field (a .tag) (a .count) (now (a .body)) (now (a .access)) (now (a .records)) (now (a .words)) (now (a .line)) _ _ _ (c .before .before .before .before .before .before .before .before .before .before .if1 .left) (c .before .before .before .before .before .before .before .before .before .if2 .left) played)
+    ((played .prints .short, omega arith), message-field (a .tag) (a .count) (now (a .body)) (now (a .access)) (now (a .records)) (now (a .words)) (now (a .line)) _ _ _ (c .before .before .before .before .before .before .before .before .before .before .if1 .left) (c .before .before .before .before .before .before .before .before .before .if2 .left) played)
 
 pub play-field-spec : {M : Type 1} → statement M
 play-field-spec =
