@@ -1,17 +1,17 @@
 -- A field carried out by its tag, the place of the next line, what a bad record ends, and bytes moved down. Assumes nothing.
-use Prim.Native.Nat.{ℕ, suc, _+_, _-_, _≤_, _<_}
-use mathlib.Core.Path.{_≡_, refl, sym, ap, ap₂, _∙_}
+use Prim.Native.Nat.{ℕ, zero, suc, _+_, _-_, _≤_, _<_}
+use mathlib.Core.Path.{_≡_, refl, sym, ap, ap₂, _∙_, subst⁻¹}
 use mathlib.Core.Bool.{Bool, true, false, _&&_, not}
 use mathlib.Core.List.{List, [], _∷_, _++_}
-use native.Mathlib.Nat.{add-comm}
+use native.Mathlib.Nat.{add-comm, zero-add, suc-add}
 use native.Mathlib.Omega.{arith}
 use lib.ListN.{length, getD, set, take, drop, length-drop}
-use lib.Seq.{take-suc, take-suc-set, drop-set-lt, drop-drop, getD-drop}
+use lib.Seq.{take-nil, take-suc, take-suc-set, drop-set-lt, drop-drop, getD-drop}
 use borrow.Author.Tests.{le-leb, lt-leb}
 use Rattle.rules.specs.Answer.{bufferAfter}
-use Rattle.fields.specs.Fields.{wordsOf}
+use Rattle.fields.specs.Fields.{foundAt, wordsOf}
 use Rattle.recording.specs.Played.{PlayedList, PlayedMessage}
-use Rattle.replay.specs.Session.{PlayedField, roomLeft, placeIn}
+use Rattle.replay.specs.Session.{PlayedField, LeftOver, waits, roomLeft, placeIn}
 
 -- ---- a field by its tag
 
@@ -95,3 +95,26 @@ module _ (held now : List ℕ) (from n : ℕ) where
   pub moved-rest : (x : ℕ) → drop n now ≡ drop n held → drop (n + 1) (set now n x) ≡ drop (n + 1) held
   moved-rest x rest =
       drop-set-lt (n + 1) now n x (omega arith) ∙ sym (drop-drop 1 n now) ∙ ap (drop 1) rest ∙ drop-drop 1 n held
+
+-- ---- what is left over
+
+-- the end of a beginning is the beginning of the end
+drop-of-take : (at n : ℕ) (l : List ℕ) → take n (drop at l) ≡ drop at (take (at + n) l)
+drop-of-take zero n l = ap (λ (k : ℕ). take k l) (sym (zero-add n))
+drop-of-take (suc at) n [] = take-nil n ∙ sym (ap (drop (suc at)) (take-nil (suc at + n)))
+drop-of-take (suc at) n (x ∷ l) = drop-of-take at n l ∙ ap (λ (k : ℕ). drop (suc at) (take k (x ∷ l))) (sym (suc-add at n))
+
+pub left-over : (input next : List ℕ) (end at held : ℕ) (goes : Bool) → at ≤ end → held ≡ end - at
+    → take held next ≡ take held (drop at input) → (goes ≡ true → waits (foundAt (take end input) at) ≡ true)
+    → LeftOver (take end input) end next held goes
+left-over input next end at held goes inside is moved more =
+    let back : end - held ≡ at = omega arith in
+    let whole : at + held ≡ end = omega arith in
+    record {
+      within = omega arith;
+      moved =
+          moved
+          ∙ drop-of-take at held input
+          ∙ ap₂ (λ (k n : ℕ). drop k (take n input)) (sym back) whole;
+      more = λ on. subst⁻¹ (λ (k : ℕ). waits (foundAt (take end input) k) ≡ true) back (more on);
+    }

@@ -1,14 +1,14 @@
 -- What the program promises of a session: how a whole field is carried out, by its tag, and where lines are gathered. Assumes nothing.
-use Prim.Native.Nat.{ℕ, _-_}
+use Prim.Native.Nat.{ℕ, _-_, _≤_}
 use mathlib.Core.Path.{_≡_}
 use mathlib.Core.Bool.{Bool, true, false, cond}
 use mathlib.Core.List.{List}
-use lib.ListN.{length, take}
+use lib.ListN.{length, take, drop}
 use lib.Dec.{leb}
 use Rattle.rules.specs.Answer.{bufferAfter}
 use Rattle.fields.specs.declared.Found.{Found}
 use Rattle.fields.specs.declared.Found.the-variants.{Whole, Bad, Partial, Nothing}
-use Rattle.fields.specs.Fields.{wordsOf}
+use Rattle.fields.specs.Fields.{foundAt, wordsOf}
 use Rattle.recording.specs.Played.{PlayedList, PlayedMessage}
 
 -- the status words of a field stand from now on, and nothing is printed
@@ -48,3 +48,9 @@ roomLeft out used = leb 96 (length out - used)
 
 abbrev pub placeIn : List ℕ → ℕ → ℕ
 placeIn out used = cond (roomLeft out used) used 0
+
+-- what a buffer of `end` bytes leaves: its last bytes, at the start of the next; the session goes on only where more may come there
+pub record LeftOver (buffer : List ℕ) (end : ℕ) (buffer′ : List ℕ) (held : ℕ) (goes : Bool) : Type 0 where
+  pub within : held ≤ end
+  pub moved : take held buffer′ ≡ drop (end - held) buffer
+  pub more : goes ≡ true → waits (foundAt buffer (end - held)) ≡ true

@@ -16,7 +16,7 @@ ghost use lib.ListN.{length, take, drop};
 ghost use mathlib.Core.Path.{_≡_};
 ghost use mathlib.Core.Bool.{true, false, _&&_, not};
 ghost use Rattle.fields.specs.Fields.{foundAt};
-ghost use Rattle.replay.specs.Session.{PlayedField, isBad, waits, roomLeft, placeIn};
+ghost use Rattle.replay.specs.Session.{PlayedField, LeftOver, isBad, waits, roomLeft, placeIn};
 
 // What a field leaves: the length of the line it printed, and how many status words stand.
 struct Played {
@@ -221,6 +221,31 @@ struct Stand {
     pub goes: bool,
 }
 
+// Plays the bytes of `input` up to `end`, and moves what is left over to its start.
+fn play_held(
+    access: &mut [u16; 17],
+    records: &mut [u32; 20],
+    words: &mut [u32; 255],
+    count: usize,
+    input: &mut [u8],
+    end: usize,
+    output: &mut [u8],
+) -> Stand
+    requires { ⌜ count ≤ 255 ⌝ }
+    requires { ⌜ end ≤ length (now input) ⌝ }
+    requires { ⌜ 96 ≤ length (now output) ⌝ }
+    ensures { λ r. ⌜ LeftOver (take end (now (input .entry))) end (now (input .exit)) (r .held) (r .goes) ⌝ }
+    ensures { λ r. ⌜ r .words ≤ 255 ⌝ }
+{
+    let played = play(access, records, words, count, &input[..end], output);
+    let at = played.at;
+    Stand {
+        held: move_down(input, at, end),
+        words: played.words,
+        goes: played.goes,
+    }
+}
+
 // Reads once, behind the bytes left over, and plays what is there. At the end of the input a field
 // that was cut off is reported.
 fn turn(
@@ -251,13 +276,7 @@ fn turn(
         };
     }
     let end = held + more;
-    let played = play(access, records, words, count, &input[..end], output);
-    let at = played.at;
-    Stand {
-        held: move_down(input, at, end),
-        words: played.words,
-        goes: played.goes,
-    }
+    play_held(access, records, words, count, input, end, output)
 }
 
 fn main() {
