@@ -11,7 +11,7 @@ use borrow.Author.Tests.{le-leb, lt-leb}
 use Rattle.rules.specs.Answer.{bufferAfter}
 use Rattle.fields.specs.Fields.{foundAt, wordsOf}
 use Rattle.recording.specs.Played.{PlayedList, PlayedMessage}
-use Rattle.replay.specs.Session.{PlayedField, LeftOver, waits, roomLeft, placeIn}
+use Rattle.replay.specs.Session.{PlayedField, LeftOver, Reached, waits, roomLeft, placeIn}
 
 -- ---- a field by its tag
 
@@ -105,13 +105,14 @@ drop-of-take (suc at) n [] = take-nil n ∙ sym (ap (drop (suc at)) (take-nil (s
 drop-of-take (suc at) n (x ∷ l) = drop-of-take at n l ∙ ap (λ (k : ℕ). drop (suc at) (take k (x ∷ l))) (sym (suc-add at n))
 
 pub left-over : (input next : List ℕ) (end at held : ℕ) (goes : Bool) → at ≤ end → held ≡ end - at
-    → take held next ≡ take held (drop at input) → (goes ≡ true → waits (foundAt (take end input) at) ≡ true)
+    → Reached (take end input) at → take held next ≡ take held (drop at input) → (goes ≡ true → waits (foundAt (take end input) at) ≡ true)
     → LeftOver (take end input) end next held goes
-left-over input next end at held goes inside is moved more =
+left-over input next end at held goes inside is there moved more =
     let back : end - held ≡ at = omega arith in
     let whole : at + held ≡ end = omega arith in
     record {
       within = omega arith;
+      place = subst⁻¹ (Reached (take end input)) back there;
       moved =
           moved
           ∙ drop-of-take at held input

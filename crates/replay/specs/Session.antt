@@ -1,5 +1,5 @@
 -- What the program promises of a session: how a whole field is carried out, by its tag, and where lines are gathered. Assumes nothing.
-use Prim.Native.Nat.{ℕ, _-_, _≤_}
+use Prim.Native.Nat.{ℕ, _+_, _-_, _≤_}
 use mathlib.Core.Path.{_≡_}
 use mathlib.Core.Bool.{Bool, true, false, cond}
 use mathlib.Core.List.{List}
@@ -42,6 +42,11 @@ waits Bad = false
 waits Partial = true
 waits Nothing = true
 
+-- the places that fields are taken from: the start, and behind each whole field
+pub data Reached : List ℕ → ℕ → Type 0 where
+  start : {buffer : List ℕ} → Reached buffer 0
+  behind : {buffer : List ℕ} {at tag n : ℕ} → Reached buffer at → foundAt buffer at ≡ Whole tag n → Reached buffer (at + 3 + n)
+
 -- whether a line fits behind the bytes that are gathered, and where it goes: there, or to the start once they are written
 abbrev pub roomLeft : List ℕ → ℕ → Bool
 roomLeft out used = leb 96 (length out - used)
@@ -52,5 +57,6 @@ placeIn out used = cond (roomLeft out used) used 0
 -- what a buffer of `end` bytes leaves: its last bytes, at the start of the next; the session goes on only where more may come there
 pub record LeftOver (buffer : List ℕ) (end : ℕ) (buffer′ : List ℕ) (held : ℕ) (goes : Bool) : Type 0 where
   pub within : held ≤ end
+  pub place : Reached buffer (end - held)
   pub moved : take held buffer′ ≡ drop (end - held) buffer
   pub more : goes ≡ true → waits (foundAt buffer (end - held)) ≡ true

@@ -16,7 +16,7 @@ ghost use lib.ListN.{length, take, drop};
 ghost use mathlib.Core.Path.{_≡_};
 ghost use mathlib.Core.Bool.{true, false, _&&_, not};
 ghost use Rattle.fields.specs.Fields.{foundAt};
-ghost use Rattle.replay.specs.Session.{PlayedField, LeftOver, isBad, waits, roomLeft, placeIn};
+ghost use Rattle.replay.specs.Session.{PlayedField, LeftOver, Reached, isBad, waits, roomLeft, placeIn};
 
 // What a field leaves: the length of the line it printed, and how many status words stand.
 struct Played {
@@ -163,7 +163,7 @@ fn play(
 ) -> Progress
     requires { ⌜ count ≤ 255 ⌝ }
     requires { ⌜ 96 ≤ length (now output) ⌝ }
-    ensures { λ r. ⌜ (r .at ≤ length (now (input .entry))) × (r .words ≤ 255) ⌝ }
+    ensures { λ r. ⌜ (r .at ≤ length (now (input .entry))) × (r .words ≤ 255) × Reached (now (input .entry)) (r .at) ⌝ }
     ensures { λ r. ⌜ (r .goes ≡ true → waits (foundAt (now (input .entry)) (r .at)) ≡ true) ⌝ }
 {
     let mut at = 0;
