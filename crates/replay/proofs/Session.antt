@@ -3,15 +3,16 @@ use Prim.Native.Nat.{ℕ, zero, suc, _+_, _-_, _≤_, _<_}
 use mathlib.Core.Path.{_≡_, refl, sym, ap, ap₂, _∙_, subst⁻¹}
 use mathlib.Core.Bool.{Bool, true, false, _&&_, not}
 use mathlib.Core.List.{List, [], _∷_, _++_}
-use native.Mathlib.Nat.{add-comm, zero-add, suc-add}
+use native.Mathlib.Nat.{add-comm, zero-add, suc-add, add-sub-cancel-left}
 use native.Mathlib.Omega.{arith}
 use lib.ListN.{length, getD, set, take, drop, length-drop}
 use lib.Seq.{take-nil, take-suc, take-suc-set, drop-set-lt, drop-drop, getD-drop}
 use borrow.Author.Tests.{le-leb, lt-leb}
 use Rattle.rules.specs.Answer.{bufferAfter}
+use Rattle.fields.specs.declared.Found.the-variants.{Whole}
 use Rattle.fields.specs.Fields.{foundAt, wordsOf}
 use Rattle.recording.specs.Played.{PlayedList, PlayedMessage}
-use Rattle.replay.specs.Session.{PlayedField, LeftOver, Reached, waits, roomLeft, placeIn}
+use Rattle.replay.specs.Session.{PlayedField, LeftOver, Memories, memories, Reached, behind, waits, roomLeft, placeIn}
 
 -- ---- a field by its tag
 
@@ -96,6 +97,18 @@ module _ (held now : List ℕ) (from n : ℕ) where
   moved-rest x rest =
       drop-set-lt (n + 1) now n x (omega arith) ∙ sym (drop-drop 1 n now) ∙ ap (drop 1) rest ∙ drop-drop 1 n held
 
+-- ---- fields in their order
+
+module _ (buffer : List ℕ) (m : Memories) (at : ℕ) (access records words : List ℕ) (stand : ℕ) (reached : Reached buffer m at (memories access records words stand)) where
+  pub reached-same : (at′ stand′ : ℕ) → at′ ≡ at → stand′ ≡ stand → Reached buffer m at′ (memories access records words stand′)
+  reached-same at′ stand′ p q = rw (p, q) reached
+
+  pub reached-next : (tag n : ℕ) (line line′ access′ records′ words′ : List ℕ) (k stand′ : ℕ) → foundAt buffer at ≡ Whole tag n
+      → PlayedField tag stand (take (at + 3 + n - (at + 3)) (drop (at + 3) buffer)) access records words line access′ records′ words′ line′ k stand′
+      → Reached buffer m (at + 3 + n) (memories access′ records′ words′ stand′)
+  reached-next tag n line line′ access′ records′ words′ k stand′ found played =
+      behind tag n line line′ access′ records′ words′ k stand′ reached found (rw (add-sub-cancel-left (at + 3) n) at played)
+
 -- ---- what is left over
 
 -- the end of a beginning is the beginning of the end
@@ -104,15 +117,15 @@ drop-of-take zero n l = ap (λ (k : ℕ). take k l) (sym (zero-add n))
 drop-of-take (suc at) n [] = take-nil n ∙ sym (ap (drop (suc at)) (take-nil (suc at + n)))
 drop-of-take (suc at) n (x ∷ l) = drop-of-take at n l ∙ ap (λ (k : ℕ). drop (suc at) (take k (x ∷ l))) (sym (suc-add at n))
 
-pub left-over : (input next : List ℕ) (end at held : ℕ) (goes : Bool) → at ≤ end → held ≡ end - at
-    → Reached (take end input) at → take held next ≡ take held (drop at input) → (goes ≡ true → waits (foundAt (take end input) at) ≡ true)
-    → LeftOver (take end input) end next held goes
-left-over input next end at held goes inside is there moved more =
+pub left-over : (input next : List ℕ) (m m′ : Memories) (end at held : ℕ) (goes : Bool) → at ≤ end → held ≡ end - at
+    → Reached (take end input) m at m′ → take held next ≡ take held (drop at input) → (goes ≡ true → waits (foundAt (take end input) at) ≡ true)
+    → LeftOver (take end input) m end next m′ held goes
+left-over input next m m′ end at held goes inside is there moved more =
     let back : end - held ≡ at = omega arith in
     let whole : at + held ≡ end = omega arith in
     record {
       within = omega arith;
-      place = subst⁻¹ (Reached (take end input)) back there;
+      place = subst⁻¹ (λ (k : ℕ). Reached (take end input) m k m′) back there;
       moved =
           moved
           ∙ drop-of-take at held input

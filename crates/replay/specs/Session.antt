@@ -42,10 +42,24 @@ waits Bad = false
 waits Partial = true
 waits Nothing = true
 
--- the places that fields are taken from: the start, and behind each whole field
-pub data Reached : List ℕ → ℕ → Type 0 where
-  start : {buffer : List ℕ} → Reached buffer 0
-  behind : {buffer : List ℕ} {at tag n : ℕ} → Reached buffer at → foundAt buffer at ≡ Whole tag n → Reached buffer (at + 3 + n)
+-- the two memories, the status words, and how many of these stand
+pub record Memories : Type 0 where
+  pub access : List ℕ
+  pub records : List ℕ
+  pub words : List ℕ
+  pub stand : ℕ
+
+abbrev pub memories : List ℕ → List ℕ → List ℕ → ℕ → Memories
+memories access records words stand = record { access = access; records = records; words = words; stand = stand }
+
+-- a buffer's fields carried out in their order: none, up to the start, or one more, behind those before it
+pub data Reached : List ℕ → Memories → ℕ → Memories → Type 0 where
+  start : {buffer : List ℕ} {m : Memories} → Reached buffer m 0 m
+  behind : {buffer : List ℕ} {m : Memories} {at : ℕ} {m′ : Memories} (tag n : ℕ) (line line′ access records words : List ℕ) (k stand : ℕ)
+      → Reached buffer m at m′
+      → foundAt buffer at ≡ Whole tag n
+      → PlayedField tag (m′ .stand) (take n (drop (at + 3) buffer)) (m′ .access) (m′ .records) (m′ .words) line access records words line′ k stand
+      → Reached buffer m (at + 3 + n) (memories access records words stand)
 
 -- whether a line fits behind the bytes that are gathered, and where it goes: there, or to the start once they are written
 abbrev pub roomLeft : List ℕ → ℕ → Bool
@@ -55,8 +69,8 @@ abbrev pub placeIn : List ℕ → ℕ → ℕ
 placeIn out used = cond (roomLeft out used) used 0
 
 -- what a buffer of `end` bytes leaves: its last bytes, at the start of the next; the session goes on only where more may come there
-pub record LeftOver (buffer : List ℕ) (end : ℕ) (buffer′ : List ℕ) (held : ℕ) (goes : Bool) : Type 0 where
+pub record LeftOver (buffer : List ℕ) (m : Memories) (end : ℕ) (buffer′ : List ℕ) (m′ : Memories) (held : ℕ) (goes : Bool) : Type 0 where
   pub within : held ≤ end
-  pub place : Reached buffer (end - held)
+  pub place : Reached buffer m (end - held) m′
   pub moved : take held buffer′ ≡ drop (end - held) buffer
   pub more : goes ≡ true → waits (foundAt buffer (end - held)) ≡ true

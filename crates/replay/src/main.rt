@@ -16,7 +16,7 @@ ghost use lib.ListN.{length, take, drop};
 ghost use mathlib.Core.Path.{_≡_};
 ghost use mathlib.Core.Bool.{true, false, _&&_, not};
 ghost use Rattle.fields.specs.Fields.{foundAt};
-ghost use Rattle.replay.specs.Session.{PlayedField, LeftOver, Reached, isBad, waits, roomLeft, placeIn};
+ghost use Rattle.replay.specs.Session.{PlayedField, LeftOver, memories, Reached, isBad, waits, roomLeft, placeIn};
 
 // What a field leaves: the length of the line it printed, and how many status words stand.
 struct Played {
@@ -163,7 +163,8 @@ fn play(
 ) -> Progress
     requires { ⌜ count ≤ 255 ⌝ }
     requires { ⌜ 96 ≤ length (now output) ⌝ }
-    ensures { λ r. ⌜ (r .at ≤ length (now (input .entry))) × (r .words ≤ 255) × Reached (now (input .entry)) (r .at) ⌝ }
+    ensures { λ r. ⌜ (r .at ≤ length (now (input .entry))) × (r .words ≤ 255) ⌝ }
+    ensures { λ r. ⌜ Reached (now (input .entry)) (memories (now (access .entry)) (now (records .entry)) (now (words .entry)) count) (r .at) (memories (now (access .exit)) (now (records .exit)) (now (words .exit)) (r .words)) ⌝ }
     ensures { λ r. ⌜ (r .goes ≡ true → waits (foundAt (now (input .entry)) (r .at)) ≡ true) ⌝ }
 {
     let mut at = 0;
@@ -234,7 +235,7 @@ fn play_held(
     requires { ⌜ count ≤ 255 ⌝ }
     requires { ⌜ end ≤ length (now input) ⌝ }
     requires { ⌜ 96 ≤ length (now output) ⌝ }
-    ensures { λ r. ⌜ LeftOver (take end (now (input .entry))) end (now (input .exit)) (r .held) (r .goes) ⌝ }
+    ensures { λ r. ⌜ LeftOver (take end (now (input .entry))) (memories (now (access .entry)) (now (records .entry)) (now (words .entry)) count) end (now (input .exit)) (memories (now (access .exit)) (now (records .exit)) (now (words .exit)) (r .words)) (r .held) (r .goes) ⌝ }
     ensures { λ r. ⌜ r .words ≤ 255 ⌝ }
 {
     let played = play(access, records, words, count, &input[..end], output);

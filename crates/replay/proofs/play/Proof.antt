@@ -15,7 +15,8 @@ use Rattle.fields.proofs.Found.{the-type}
 use Rattle.fields.specs.declared.Found.{Found}
 use Rattle.fields.specs.declared.Found.the-variants.{Whole, Bad, Partial, Nothing}
 use Rattle.fields.specs.Fields.{foundAt}
-use Rattle.replay.specs.Session.{Reached, start, behind, isBad, waits}
+use Rattle.replay.specs.Session.{memories, Reached, start, isBad, waits}
+use Rattle.replay.proofs.Session.{reached-same, reached-next}
 use Rattle.fields.proofs.Finds.{whole-ends}
 use borrow.Author.Needs.{needs}
 use Rattle.replay.proofs.play.Statement.{statement}
@@ -23,7 +24,7 @@ use Rattle.replay.proofs.play.Tie as tie
 
 abbrev Inv-loop : tie.InvT-loop
 Inv-loop access₀ records₀ words₀ count input output₀ at₀ used₀ stand₀ access records words output at used stand =
-    (at ≤ length input) × (stand ≤ 255) × (length output ≡ length output₀) × (used ≤ length output) × Reached input at
+    (at ≤ length input) × (stand ≤ 255) × (length output ≡ length output₀) × (used ≤ length output) × Reached input (memories access₀ records₀ words₀ count) at (memories access records words stand)
 
 abbrev μ-loop : tie.MeasureT-loop
 μ-loop access₀ records₀ words₀ count input output₀ at₀ used₀ stand₀ access records words output at used stand =
@@ -58,7 +59,7 @@ returns c =
     let found = c .before .before .before .find .result in
     let input = now (c .before .before .before .before .before .before .before .args .input) in
     let same : found ≡ foundAt input (c .stopped .result .at) = c .before .before .before .find .ensures ∙ ap (foundAt input) (sym (told .0)) in
-    ((omega (arith, told .0), omega (arith, told .1), subst⁻¹ (Reached input) (told .0) (c .before .before .before .before .loop .inv .4)), λ on. sym (ap waits same) ∙ more-to-come found _ (c .before .before .match .keys2) (told .2) on)
+    ((omega (arith, told .0), omega (arith, told .1)), (reached-same _ _ _ _ _ _ _ (c .before .before .before .before .loop .inv .4) _ _ (told .0) (told .1), λ on. sym (ap waits same) ∙ more-to-come found _ (c .before .before .match .keys2) (told .2) on))
 
 add-start : tie.Need-add-start Inv-loop μ-loop
 add-start c = search needs
@@ -92,7 +93,7 @@ same-length-2 c = search needs
 returns-2 : tie.Need-returns-2 Inv-loop μ-loop
 returns-2 c =
     let told = c .ended .ensures in
-    ((omega (arith, told .0), omega (arith, told .1), subst⁻¹ (Reached _) (told .0) (c .before .before .before .before .before .before .before .before .before .before .loop .inv .4)), λ on. clash on (told .2 ∙ not-true _ (c .before .if1 .taken)))
+    ((omega (arith, told .0), omega (arith, told .1)), (reached-same _ _ _ _ _ _ _ (c .before .before .before .before .before .before .before .before .before .before .loop .inv .4) _ _ (told .0) (told .1), λ on. clash on (told .2 ∙ not-true _ (c .before .if1 .taken))))
 
 sub-play-field : tie.Need-sub-play-field Inv-loop μ-loop
 sub-play-field c = search needs
@@ -130,7 +131,7 @@ loop-again c =
     let room = c .before .before .before .before .before .before .before .before .before .before .make-room .ensures .1 .0 in
     let fits : place + played .result .line ≤ length (l .output) = omega (arith, room, told .0) in
     let size = same-len-mid {X = ℕ} place (length (l .output) - place) (l .output) (played .last .1 .1 .1 .1 .1 .1 .0) (played .kept .1 .1 .1 .1 .1 .1 .0) in
-    (omega arith, told .1, size ∙ l .inv .2, subst⁻¹ (λ (n : ℕ). place + played .result .line ≤ n) size fits, behind (l .inv .4) (sym (sym (c .before .before .before .before .before .before .before .before .before .before .before .before .before .before .found .given .1) ∙ c .before .before .before .before .before .before .before .before .before .before .before .before .before .before .before .before .find .ensures)))
+    (omega arith, told .1, size ∙ l .inv .2, subst⁻¹ (λ (n : ℕ). place + played .result .line ≤ n) size fits, reached-next _ _ _ _ _ _ _ (l .inv .4) _ _ _ _ _ _ _ _ _ (sym (sym (c .before .before .before .before .before .before .before .before .before .before .before .before .before .before .found .given .1) ∙ c .before .before .before .before .before .before .before .before .before .before .before .before .before .before .before .before .find .ensures)) (played .ensures .1))
 
 pub play-spec : {M : Type 1} → statement M
 play-spec =

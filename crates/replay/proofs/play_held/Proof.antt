@@ -39,7 +39,7 @@ returns c =
     let played = c .before .before .before .before .before .before .play in
     let moved = c .before .before .move-down .ensures in
     let inside : played .result .at ≤ a .end = le-trans (played .ensures .0 .0) (length-part _ _) in
-    (left-over (now (a .input)) _ (a .end) (played .result .at) _ _ inside (moved .0) (played .ensures .0 .2) (moved .1) (played .ensures .1), played .ensures .0 .1)
+    (left-over (now (a .input)) _ _ _ (a .end) (played .result .at) _ _ inside (moved .0) (played .ensures .1 .0) (moved .1) (played .ensures .1 .1), played .ensures .0 .1)
 
 pub play-held-spec : {M : Type 1} → statement M
 play-held-spec =
