@@ -5,7 +5,7 @@ use mathlib.Core.Bool.{Bool, true, false, _&&_, not}
 use mathlib.Core.List.{List, [], _∷_, _++_}
 use native.Mathlib.Nat.{add-comm, zero-add, suc-add, add-sub-cancel-left}
 use native.Mathlib.Omega.{arith}
-use lib.ListN.{length, getD, set, take, drop, length-drop}
+use lib.ListN.{length, getD, set, take, drop, length-take, length-drop}
 use lib.Seq.{take-nil, take-suc, take-suc-set, drop-set-lt, drop-drop, getD-drop}
 use borrow.Author.Tests.{le-leb, lt-leb}
 use Rattle.rules.specs.Answer.{bufferAfter}
@@ -70,6 +70,10 @@ module _ (out : List ℕ) (used : ℕ) where
   pub place-anew : length out - used < 96 → 0 ≡ placeIn out used
   place-anew h = rw (no-room-left h)
 
+  -- the rest of the buffer from a place on
+  pub rest-long : used + 96 ≤ length out → 96 ≤ length (take (length out - used) (drop used out))
+  rest-long h = simp (length-take, length-drop) (omega arith)
+
 -- ---- a bad record ends the session
 
 pub bad-ends : (bad written goes is : Bool) → bad ≡ is → goes ≡ (not bad && written) → is ≡ true → goes ≡ false
@@ -104,10 +108,11 @@ module _ (buffer : List ℕ) (m : Memories) (at : ℕ) (access records words : L
   reached-same at′ stand′ p q = rw (p, q) reached
 
   pub reached-next : (tag n : ℕ) (line line′ access′ records′ words′ : List ℕ) (k stand′ : ℕ) → foundAt buffer at ≡ Whole tag n
+      → 96 ≤ length line
       → PlayedField tag stand (take (at + 3 + n - (at + 3)) (drop (at + 3) buffer)) access records words line access′ records′ words′ line′ k stand′
       → Reached buffer m (at + 3 + n) (memories access′ records′ words′ stand′)
-  reached-next tag n line line′ access′ records′ words′ k stand′ found played =
-      behind tag n line line′ access′ records′ words′ k stand′ reached found (rw (add-sub-cancel-left (at + 3) n) at played)
+  reached-next tag n line line′ access′ records′ words′ k stand′ found long played =
+      behind tag n line line′ access′ records′ words′ k stand′ reached found (le-leb 96 (length line) long) (rw (add-sub-cancel-left (at + 3) n) at played)
 
 -- ---- what is left over
 

@@ -9,6 +9,7 @@ use Rattle.rules.specs.Answer.{bufferAfter}
 use Rattle.fields.specs.declared.Found.{Found}
 use Rattle.fields.specs.declared.Found.the-variants.{Whole, Bad, Partial, Nothing}
 use Rattle.fields.specs.Fields.{foundAt, wordsOf}
+use Rattle.lines.specs.Lines.{hasRoom}
 use Rattle.recording.specs.Played.{PlayedList, PlayedMessage}
 
 -- the status words of a field stand from now on, and nothing is printed
@@ -52,12 +53,13 @@ pub record Memories : Type 0 where
 abbrev pub memories : List ℕ → List ℕ → List ℕ → ℕ → Memories
 memories access records words stand = record { access = access; records = records; words = words; stand = stand }
 
--- a buffer's fields carried out in their order: none, up to the start, or one more, behind those before it
+-- a buffer's fields carried out in their order: none, up to the start, or one more, behind those before it and with room for its line
 pub data Reached : List ℕ → Memories → ℕ → Memories → Type 0 where
   start : {buffer : List ℕ} {m : Memories} → Reached buffer m 0 m
   behind : {buffer : List ℕ} {m : Memories} {at : ℕ} {m′ : Memories} (tag n : ℕ) (line line′ access records words : List ℕ) (k stand : ℕ)
       → Reached buffer m at m′
       → foundAt buffer at ≡ Whole tag n
+      → hasRoom line ≡ true
       → PlayedField tag (m′ .stand) (take n (drop (at + 3) buffer)) (m′ .access) (m′ .records) (m′ .words) line access records words line′ k stand
       → Reached buffer m (at + 3 + n) (memories access records words stand)
 

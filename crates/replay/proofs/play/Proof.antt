@@ -16,7 +16,7 @@ use Rattle.fields.specs.declared.Found.{Found}
 use Rattle.fields.specs.declared.Found.the-variants.{Whole, Bad, Partial, Nothing}
 use Rattle.fields.specs.Fields.{foundAt}
 use Rattle.replay.specs.Session.{memories, Reached, start, isBad, waits}
-use Rattle.replay.proofs.Session.{reached-same, reached-next}
+use Rattle.replay.proofs.Session.{reached-same, reached-next, rest-long}
 use Rattle.fields.proofs.Finds.{whole-ends}
 use borrow.Author.Needs.{needs}
 use Rattle.replay.proofs.play.Statement.{statement}
@@ -131,7 +131,7 @@ loop-again c =
     let room = c .before .before .before .before .before .before .before .before .before .before .make-room .ensures .1 .0 in
     let fits : place + played .result .line ≤ length (l .output) = omega (arith, room, told .0) in
     let size = same-len-mid {X = ℕ} place (length (l .output) - place) (l .output) (played .last .1 .1 .1 .1 .1 .1 .0) (played .kept .1 .1 .1 .1 .1 .1 .0) in
-    (omega arith, told .1, size ∙ l .inv .2, subst⁻¹ (λ (n : ℕ). place + played .result .line ≤ n) size fits, reached-next _ _ _ _ _ _ _ (l .inv .4) _ _ _ _ _ _ _ _ _ (sym (sym (c .before .before .before .before .before .before .before .before .before .before .before .before .before .before .found .given .1) ∙ c .before .before .before .before .before .before .before .before .before .before .before .before .before .before .before .before .find .ensures)) (played .ensures .1))
+    (omega arith, told .1, size ∙ l .inv .2, subst⁻¹ (λ (n : ℕ). place + played .result .line ≤ n) size fits, reached-next _ _ _ _ _ _ _ (l .inv .4) _ _ _ _ _ _ _ _ _ (sym (sym (c .before .before .before .before .before .before .before .before .before .before .before .before .before .before .found .given .1) ∙ c .before .before .before .before .before .before .before .before .before .before .before .before .before .before .before .before .find .ensures)) (rest-long (l .output) place room) (played .ensures .1))
 
 pub play-spec : {M : Type 1} → statement M
 play-spec =
