@@ -1,5 +1,4 @@
 -- `lines::append_number` meets its contract: one digit, or as many as there are. Assumes nothing.
-use denote.Ref.{now}
 use native.Mathlib.Omega.{arith}
 use lib.ListN.{length-set}
 use Rattle.lines.proofs.Laid.{laid-digit}

@@ -1,6 +1,6 @@
 -- `lines::print_message` meets its contract: the line by the outcome's number, or nothing. Assumes nothing.
 use Prim.Native.Nat.{ℕ, _≤_}
-use mathlib.Core.Path.{_≡_, ap, ap₂, _∙_, subst⁻¹}
+use mathlib.Core.Path.{ap, ap₂, _∙_, subst⁻¹}
 use mathlib.Core.Bool.{Bool, _&&_}
 use lib.ListN.{length}
 use lib.Dec.{leb, lit≤}
@@ -9,7 +9,7 @@ use denote.Ref.{now}
 use Rattle.rules.specs.declared.Outcome.{Outcome}
 use Rattle.rules.specs.declared.Outcome.the-variants.{R1, R2, N1, N2, N3, N4, N5, N6, N7, N8, R3, N9, Ok}
 use Rattle.rules.specs.Outcome.{outcomeNumber}
-use Rattle.lines.specs.Lines.{outcomeText, messageLine, laid, hasRoom}
+use Rattle.lines.specs.Lines.{outcomeText, messageLine, laid}
 use Rattle.lines.proofs.Laid.{nothing-printed, all-printed}
 use borrow.Author.Needs.{needs}
 use Rattle.lines.proofs.print_message.Statement.{statement}
