@@ -1,38 +1,73 @@
--- A message's line, from what the message call gives. Assumes nothing.
-use Prim.Native.Nat.{ℕ}
-use mathlib.Core.Path.{_≡_, ap, ap₂, _∙_}
-use mathlib.Core.List.{List, [], _∷_, _++_}
-use lib.ListN.{length, take, drop}
+-- A field carried out, from what the two calls give: with room for a line, and without. Assumes nothing.
+use Prim.Native.Nat.{ℕ, _≤_, _<_}
+use mathlib.Core.Path.{_≡_, refl, ap, ap₂, _∙_, subst⁻¹}
+use mathlib.Core.Bool.{_&&_}
+use mathlib.Core.List.{List}
+use native.Mathlib.Omega.{arith}
+use lib.ListN.{length, take, drop, replicate, length-take}
 use lib.Seq.{take-append-seam}
+use lib.Dec.{leb}
+use borrow.Author.Tests.{lt-leb, le-leb}
 use Rattle.rules.specs.declared.Report.{Report}
+use Rattle.rules.specs.declared.Verdict.{Verdict}
+use Rattle.rules.specs.Bytes.{byteAt}
 use Rattle.rules.specs.Board.{ours}
 use Rattle.rules.specs.Message.{Query}
-use Rattle.rules.specs.Outcome.{outcomeNumber}
 use Rattle.rules.specs.Answer.{bufferAfter, reportOf}
 use Rattle.rules.specs.Call.{State}
 use Rattle.rules.specs.Sequence.{answerTo}
-use Rattle.recording.specs.Lines.{outcomeName, decimalOf, answerText, messageLine}
+use Rattle.rules.proofs.Tests.{clash}
+use Rattle.manager.specs.Calls.{ListCall, MessageCall}
+use Rattle.manager.proofs.TwoCalls.{written-short}
+use Rattle.lines.specs.Lines.{listLine, messageLine, hasRoom, printed, Printed}
+use Rattle.lines.proofs.Laid.{nothing-printed}
+use Rattle.recording.specs.Played.{PlayedList, PlayedMessage}
 
--- the line, as the code puts it together
-abbrev pub lineText : ℕ → ℕ → ℕ → List ℕ → List ℕ
-lineText number checks micros bytes =
-    (outcomeName number ++ (32 ∷ []))
-    ++ (decimalOf checks ++ (32 ∷ []))
-    ++ (decimalOf micros ++ (32 ∷ []))
-    ++ answerText bytes
-    ++ (10 ∷ [])
-
-pub line-is : (s : State) (q : Query) (told : Report) (number : ℕ) (held buffer : List ℕ)
+-- the line of what a message call reports and leaves at the start of its buffer
+line-is : (s : State) (q : Query) (told : Report) (held buffer : List ℕ)
     → told ≡ answerTo ours s q .report
     → buffer ≡ bufferAfter (answerTo ours s q .bytes) held
-    → number ≡ outcomeNumber (told .outcome)
-    → lineText number (told .checks) (told .micros) (take (told .written) buffer)
-    ≡ messageLine (answerTo ours s q .report) (answerTo ours s q .bytes)
-unfolding answerTo reportOf messageLine
-line-is s q told number held buffer same wrote is =
+    → messageLine told (take (told .written) buffer) ≡ messageLine (answerTo ours s q .report) (answerTo ours s q .bytes)
+unfolding answerTo reportOf
+line-is s q told held buffer same wrote =
     let bytes = answerTo ours s q .bytes in
-    let part : take (told .written) buffer ≡ bytes =
-    ap₂ take (ap (λ (r : Report). r .written) same) wrote ∙ take-append-seam bytes (drop (length bytes) held)
-    in
-    ap₂ (λ (n : ℕ) (l : List ℕ). lineText n (told .checks) (told .micros) l) is part
-    ∙ ap (λ (r : Report). lineText (outcomeNumber (r .outcome)) (r .checks) (r .micros) bytes) same
+    ap₂ messageLine same
+    (ap₂ take (ap (λ (r : Report). r .written) same) wrote ∙ take-append-seam bytes (drop (length bytes) held))
+
+-- at most 29 bytes are written
+pub written-few : (access memory : List ℕ) (channel : ℕ) (m words held memory′ buffer : List ℕ) (told : Report)
+    → MessageCall access memory channel m words held memory′ buffer told → told .written ≤ 29
+written-few access memory channel m words held memory′ buffer told call =
+    subst⁻¹ (λ (r : Report). r .written ≤ 29) (call .report) (written-short _ _)
+
+module _ (access body line : List ℕ) where
+  pub list-refused : length line < 96 → PlayedList access body line access line 0
+  list-refused h =
+      let gone = lt-leb 96 (length line) h in
+      record { prints = nothing-printed line _ _ gone; memory = rw gone }
+
+  pub list-played : (access′ line′ : List ℕ) (verdict : Verdict) (n : ℕ) → 96 ≤ length line
+      → ListCall access body access′ verdict
+      → Printed line (printed (hasRoom line) (listLine verdict)) line′ n
+      → PlayedList access body line access′ line′ n
+  list-played access′ line′ verdict n h call shown =
+      let room = le-leb 96 (length line) h in
+      record { prints = rw (call .verdict) at shown; memory = rw room (call .memory) }
+
+module _ (access memory body words line : List ℕ) where
+  pub message-refused : length line < 96 → PlayedMessage access memory body words line memory line 0
+  message-refused h =
+      let gone = lt-leb 96 (length line) h in
+      record { prints = nothing-printed line _ _ gone; records = rw gone; kept = λ _. refl }
+
+  pub message-played : (memory′ line′ buffer : List ℕ) (told : Report) (n : ℕ) → 96 ≤ length line
+      → MessageCall access memory (byteAt body 0) (drop 1 body) words (replicate 29 0) memory′ buffer told
+      → Printed line (printed (hasRoom line && leb (length (take (told .written) buffer)) 29) (messageLine told (take (told .written) buffer))) line′ n
+      → PlayedMessage access memory body words line memory′ line′ n
+  message-played memory′ line′ buffer told n h call shown =
+      let room = le-leb 96 (length line) h in
+      let wrote = written-few access memory _ _ words _ memory′ buffer told call in
+      let short : length (take (told .written) buffer) ≤ 29 = rw length-take (omega arith) in
+      let fits = le-leb (length (take (told .written) buffer)) 29 short in
+      let text = line-is _ _ told (replicate 29 0) buffer (call .report) (call .buffer) in
+      record { prints = rw room (rw (fits, room, text) at shown); records = rw room (call .records); kept = clash room }

@@ -1,4 +1,2 @@
--- Session recordings: fields in, lines out.
-pub mod Fields
-pub mod Lines
+-- A field carried out.
 pub mod Played

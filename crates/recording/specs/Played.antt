@@ -1,23 +1,26 @@
--- What carrying out a whole field leaves: the line it prints, laid over the start of the lent line, and the memories. Assumes nothing.
-use Prim.Native.Nat.{ℕ, _≤_}
+-- What carrying out a whole field leaves: the line it prints, laid over the start of what is lent, and the memories. Where less than 96
+-- bytes are lent, which any line fits, nothing is carried out. Assumes nothing.
+use Prim.Native.Nat.{ℕ}
 use mathlib.Core.Path.{_≡_}
+use mathlib.Core.Bool.{false, cond}
 use mathlib.Core.List.{List}
-use lib.ListN.{length, drop, replicate}
+use lib.ListN.{drop, replicate}
 use Rattle.rules.specs.Bytes.{byteAt}
+use Rattle.rules.specs.declared.Record.{Record}
 use Rattle.rules.specs.Board.{ours}
 use Rattle.rules.specs.AccessList.{verdictOf}
 use Rattle.rules.specs.Sequence.{Call, message, queryOf, next, Answer, answerTo}
 use Rattle.access.specs.Memory.{listedIn, accessAfter}
 use Rattle.records.specs.Memory.{recordsIn, stateIn}
-use Rattle.recording.specs.Lines.{listLine, messageLine, laid}
+use Rattle.lines.specs.Lines.{listLine, messageLine, hasRoom, printed, Printed}
 
 -- a list field: its body is offered
+abbrev pub listText : List ℕ → List ℕ → List ℕ
+listText access body = listLine (verdictOf ours (listedIn access) body)
+
 pub record PlayedList (access body line access′ line′ : List ℕ) (n : ℕ) : Type 0 where
-  pub count : n ≡ length (listLine (verdictOf ours (listedIn access) body))
-  pub text : line′ ≡ laid line 0 (listLine (verdictOf ours (listedIn access) body))
-  pub memory : access′ ≡ accessAfter access body
-  pub short : n ≤ 96
-  pub size : length line′ ≡ 96
+  pub prints : Printed line (printed (hasRoom line) (listText access body)) line′ n
+  pub memory : access′ ≡ cond (hasRoom line) (accessAfter access body) access
 
 -- a message field: its first byte is the channel host, the rest the message; the answer buffer has 29 bytes
 abbrev pub callIn : List ℕ → List ℕ → Call
@@ -31,9 +34,10 @@ abbrev pub messageText : List ℕ → List ℕ → List ℕ → List ℕ → Lis
 messageText access memory body words =
     messageLine (answerIn access memory body words .report) (answerIn access memory body words .bytes)
 
+abbrev pub recordsAfter : List ℕ → List ℕ → List ℕ → List ℕ → List Record
+recordsAfter access memory body words = next ours (stateIn access memory) (callIn body words) .records
+
 pub record PlayedMessage (access memory body words line memory′ line′ : List ℕ) (n : ℕ) : Type 0 where
-  pub count : n ≡ length (messageText access memory body words)
-  pub text : line′ ≡ laid line 0 (messageText access memory body words)
-  pub records : recordsIn memory′ ≡ next ours (stateIn access memory) (callIn body words) .records
-  pub short : n ≤ 96
-  pub size : length line′ ≡ 96
+  pub prints : Printed line (printed (hasRoom line) (messageText access memory body words)) line′ n
+  pub records : recordsIn memory′ ≡ cond (hasRoom line) (recordsAfter access memory body words) (recordsIn memory)
+  pub kept : hasRoom line ≡ false → memory′ ≡ memory

@@ -1,21 +1,60 @@
-// Session recordings: finds the next field in a buffer, and carries a whole field out, writing the
-// line that it prints. The rules are specs/Fields.antt and specs/Lines.antt.
-mod fields;
-mod lines;
+// Session recordings: carries a whole field out, and writes the line that it prints. The rules are
+// specs/Played.antt, over the fields and the lines of the crates below.
+ghost use mathlib.Core.Path.{_≡_};
+ghost use lib.ListN.{drop};
+ghost use Rattle.recording.specs.Played.{PlayedList, PlayedMessage};
+use lines::ROOM;
+use lines::print_list;
+use lines::print_message;
+use manager::message;
+use manager::offer_list;
+use wire::byte_at;
 
-pub use fields::find;
-pub use fields::take_words;
-pub use lines::list_line;
-pub use lines::message_line;
+// Carries out a list field, and writes its line over the start of `line`. Gives the line's length.
+// Where there is no room for a line, nothing is carried out.
+pub fn list_line(access: &mut [u16; 17], body: &[u8], line: &mut [u8]) -> usize
+    ensures { λ r. ⌜ PlayedList (now (access .entry)) (now (body .entry)) (now (line .entry)) (now (access .exit)) (now (line .exit)) r ⌝ }
+{
+    if line.len() < ROOM {
+        return 0;
+    }
+    print_list(line, offer_list(access, body))
+}
 
-// What stands at a place of a buffer.
-pub enum Found {
-    // A whole field: its tag and its length; the body starts three bytes on.
-    Whole(u8, u16),
-    // A bad tag or length.
-    Bad,
-    // The beginning of a field, with more to come.
-    Partial,
-    // The end of the buffer.
-    Nothing,
+// All of a field's body but its first byte.
+fn after_first(body: &[u8]) -> &[u8]
+    ensures { λ r. ⌜ now r ≡ drop 1 (now (body .entry)) ⌝ }
+{
+    if body.len() == 0 {
+        return &body[..0];
+    }
+    &body[1..]
+}
+
+// Carries out a message field with these status words, and writes its line over the start of `line`.
+// Gives the line's length. Where there is no room for a line, nothing is carried out.
+pub fn message_line(
+    access: &[u16; 17],
+    records: &mut [u32; 20],
+    body: &[u8],
+    status: &[u32],
+    line: &mut [u8],
+) -> usize
+    ensures { λ r. ⌜ PlayedMessage (now (access .entry)) (now (records .entry)) (now (body .entry)) (now (status .entry)) (now (line .entry)) (now (records .exit)) (now (line .exit)) r ⌝ }
+{
+    if line.len() < ROOM {
+        return 0;
+    }
+    let mut answer = [0u8; 29];
+    let channel = byte_at(body, 0);
+    let told = message(
+        access,
+        records,
+        channel,
+        after_first(body),
+        status,
+        &mut answer,
+    );
+    let written = told.written;
+    print_message(line, told, &answer[..written])
 }

@@ -1,15 +1,22 @@
 // Replays a recorded session: reads tagged fields from standard input, carries each out, and prints
-// its line to standard output. All that matters is in the crates below; this moves bytes.
-use answers::put;
+// its line to standard output. All that matters is in the crates below; this moves bytes. No contract
+// can say what is read or written, so what a write answered goes through a function that promises what
+// is reported.
+use fields::Found;
+use fields::find;
+use fields::take_words;
 use io::write_all;
-use recording::Found;
-use recording::find;
+use lines::ROOM;
+use lines::bad_line;
+use lines::cut_line;
 use recording::list_line;
 use recording::message_line;
-use recording::take_words;
-ghost use Prim.Native.Nat.{_+_, _≤_};
-ghost use lib.ListN.{length};
+ghost use Prim.Native.Nat.{_+_, _-_, _≤_};
+ghost use lib.ListN.{length, take, drop};
 ghost use mathlib.Core.Path.{_≡_};
+ghost use mathlib.Core.Bool.{true, false, _&&_, not};
+ghost use Rattle.fields.specs.Fields.{foundAt};
+ghost use Rattle.replay.specs.Session.{PlayedField, LeftOver, memories, Reached, isBad, waits, roomLeft, placeIn};
 
 // What a field leaves: the length of the line it printed, and how many status words stand.
 struct Played {
@@ -17,7 +24,7 @@ struct Played {
     pub words: usize,
 }
 
-// Carries out a whole field, and writes the line that it prints, if any, to `line`.
+// Carries out a whole field, and writes the line that it prints, if any, over the start of `line`.
 fn play_field(
     access: &mut [u16; 17],
     records: &mut [u32; 20],
@@ -25,12 +32,11 @@ fn play_field(
     count: usize,
     tag: u8,
     body: &[u8],
-    line: &mut [u8; 96],
+    line: &mut [u8],
 ) -> Played
     requires { ⌜ count ≤ 255 ⌝ }
-    requires { ⌜ length (now line) ≡ 96 ⌝ }
     ensures { λ r. ⌜ (r .line ≤ 96) × (r .words ≤ 255) ⌝ }
-    ensures { λ _. ⌜ length (now (line .exit)) ≡ 96 ⌝ }
+    ensures { λ r. ⌜ PlayedField tag count (now (body .entry)) (now (access .entry)) (now (records .entry)) (now (words .entry)) (now (line .entry)) (now (access .exit)) (now (records .exit)) (now (words .exit)) (now (line .exit)) (r .line) (r .words) ⌝ }
 {
     if tag == 1 {
         return Played {
@@ -51,6 +57,54 @@ fn play_field(
     }
 }
 
+// Lines gathered: how many bytes, and whether the write went well, if there was one.
+struct Gathered {
+    pub used: usize,
+    pub good: bool,
+}
+
+// After all that was gathered is written, it starts anew. A write that failed is reported.
+fn after_write(written: bool) -> Gathered
+    ensures { λ r. ⌜ (r .used ≡ 0) × (r .good ≡ written) ⌝ }
+{
+    Gathered {
+        used: 0,
+        good: written,
+    }
+}
+
+// Makes room for a line: where less than 96 bytes are left, the lines that are gathered are written.
+fn make_room(out: &[u8], used: usize) -> Gathered
+    requires { ⌜ used ≤ length (now out) ⌝ }
+    requires { ⌜ 96 ≤ length (now out) ⌝ }
+    ensures { λ r. ⌜ r .used ≡ placeIn (now (out .entry)) used ⌝ }
+    ensures { λ r. ⌜ r .used + 96 ≤ length (now (out .entry)) ⌝ }
+    ensures { λ r. ⌜ (roomLeft (now (out .entry)) used ≡ true → r .good ≡ true) ⌝ }
+{
+    if ROOM <= out.len() - used {
+        return Gathered { used, good: true };
+    }
+    after_write(write_all(1, &out[..used]))
+}
+
+// What two writes report together: well only where both went well.
+fn both(first: bool, second: bool) -> bool
+    ensures { λ r. ⌜ r ≡ (first && second) ⌝ }
+{
+    first & second
+}
+
+// Writes the lines that are gathered, and a last one.
+fn finish(out: &[u8], used: usize, last: &[u8]) -> bool
+    requires { ⌜ used ≤ length (now out) ⌝ }
+{
+    let written = write_all(1, &out[..used]);
+    if !written {
+        return both(written, false);
+    }
+    both(written, write_all(1, last))
+}
+
 // How far a buffer was played: the place of the first byte that is left, how many status words stand,
 // and whether the session goes on.
 struct Progress {
@@ -59,68 +113,46 @@ struct Progress {
     pub goes: bool,
 }
 
-// Lines gathered: how many bytes, and whether all writes went well so far.
-struct Gathered {
-    pub used: usize,
-    pub good: bool,
-}
-
-// Adds a line to those gathered in `out`. Where it might not fit, they are written first.
-fn gather(out: &mut [u8], used: usize, line: &[u8]) -> Gathered {
-    if out.len() < used {
-        return Gathered {
-            used: 0,
-            good: false,
-        };
-    }
-    if line.len() <= out.len() - used {
-        put(&mut out[used..], line);
-        return Gathered {
-            used: used + line.len(),
-            good: true,
-        };
-    }
-    let written = write_all(1, &out[..used]);
-    put(out, line);
-    Gathered {
-        used: line.len(),
-        good: written & (line.len() <= out.len()),
-    }
-}
-
-// Writes the lines that are gathered, and a last one.
-fn finish(out: &[u8], used: usize, last: &[u8]) -> bool {
-    if out.len() < used {
-        return false;
-    }
-    if write_all(1, &out[..used]) {
-        return write_all(1, last);
-    }
-    false
-}
-
-// Ends the playing of a buffer where no whole field follows: the lines that are gathered are written,
-// and a bad record ends the session.
-fn stopped(found: Found, at: usize, words: usize, out: &[u8], used: usize) -> Progress
-    ensures { λ r. ⌜ (r .at ≡ at) × (r .words ≡ words) ⌝ }
+// Where the playing of a buffer ends. A bad record ends the session, and so does a write that failed.
+fn ended(bad: bool, written: bool, at: usize, words: usize) -> Progress
+    ensures { λ r. ⌜ (r .at ≡ at) × (r .words ≡ words) × (r .goes ≡ (not bad && written)) ⌝ }
 {
-    if let Found::Bad = found {
-        finish(out, used, b"bad record\n");
-        return Progress {
-            at,
-            words,
-            goes: false,
-        };
-    }
     Progress {
         at,
         words,
-        goes: finish(out, used, b""),
+        goes: !bad & written,
     }
 }
 
+// Whether a bad record stands there.
+fn is_bad(found: Found) -> bool
+    ensures { λ r. ⌜ r ≡ isBad found ⌝ }
+{
+    match found {
+        Found::Whole(_, _) => false,
+        Found::Bad => true,
+        Found::Partial => false,
+        Found::Nothing => false,
+    }
+}
+
+// Ends the playing of a buffer where no whole field follows: the lines that are gathered are written,
+// and what a bad record prints.
+fn stopped(found: Found, at: usize, words: usize, out: &[u8], used: usize) -> Progress
+    requires { ⌜ used ≤ length (now out) ⌝ }
+    ensures { λ r. ⌜ (r .at ≡ at) × (r .words ≡ words) × (isBad found ≡ true → r .goes ≡ false) ⌝ }
+{
+    let bad = is_bad(found);
+    if bad {
+        let written = finish(out, used, &bad_line());
+        return ended(bad, written, at, words);
+    }
+    ended(bad, finish(out, used, b""), at, words)
+}
+
 // Plays every whole field of `input`. Lines are gathered in `output` and written when it is full and
-// at the end. A bad record and a write that fails end the session.
+// at the end. A bad record and a write that fails end the session: it goes on only where no whole field
+// is left.
 fn play(
     access: &mut [u16; 17],
     records: &mut [u32; 20],
@@ -130,9 +162,11 @@ fn play(
     output: &mut [u8],
 ) -> Progress
     requires { ⌜ count ≤ 255 ⌝ }
+    requires { ⌜ 96 ≤ length (now output) ⌝ }
     ensures { λ r. ⌜ (r .at ≤ length (now (input .entry))) × (r .words ≤ 255) ⌝ }
+    ensures { λ r. ⌜ Reached (now (input .entry)) (memories (now (access .entry)) (now (records .entry)) (now (words .entry)) count) (r .at) (memories (now (access .exit)) (now (records .exit)) (now (words .exit)) (r .words)) ⌝ }
+    ensures { λ r. ⌜ (r .goes ≡ true → waits (foundAt (now (input .entry)) (r .at)) ≡ true) ⌝ }
 {
-    let mut line = [0u8; 96];
     let mut at = 0;
     let mut used = 0;
     let mut stand = count;
@@ -144,17 +178,21 @@ fn play(
         let start = at + 3;
         let end = start + length as usize;
         let body = &input[start..end];
-        let played = play_field(access, records, words, stand, tag, body, &mut line);
-        let n = played.line;
-        let gathered = gather(output, used, &line[..n]);
-        if !gathered.good {
-            return Progress {
-                at,
-                words: stand,
-                goes: false,
-            };
+        let room = make_room(output, used);
+        if !room.good {
+            return ended(false, room.good, at, stand);
         }
-        used = gathered.used;
+        let place = room.used;
+        let played = play_field(
+            access,
+            records,
+            words,
+            stand,
+            tag,
+            body,
+            &mut output[place..],
+        );
+        used = place + played.line;
         stand = played.words;
         at = end;
     }
@@ -164,7 +202,8 @@ fn play(
 fn move_down(buffer: &mut [u8], from: usize, end: usize) -> usize
     requires { ⌜ from ≤ end ⌝ }
     requires { ⌜ end ≤ length (now buffer) ⌝ }
-    ensures { λ r. ⌜ r ≤ length (now (buffer .entry)) ⌝ }
+    ensures { λ r. ⌜ r ≡ end - from ⌝ }
+    ensures { λ r. ⌜ take r (now (buffer .exit)) ≡ take r (drop from (now (buffer .entry))) ⌝ }
 {
     let left = end - from;
     let mut n = 0;
@@ -183,6 +222,31 @@ struct Stand {
     pub goes: bool,
 }
 
+// Plays the bytes of `input` up to `end`, and moves what is left over to its start.
+fn play_held(
+    access: &mut [u16; 17],
+    records: &mut [u32; 20],
+    words: &mut [u32; 255],
+    count: usize,
+    input: &mut [u8],
+    end: usize,
+    output: &mut [u8],
+) -> Stand
+    requires { ⌜ count ≤ 255 ⌝ }
+    requires { ⌜ end ≤ length (now input) ⌝ }
+    requires { ⌜ 96 ≤ length (now output) ⌝ }
+    ensures { λ r. ⌜ LeftOver (take end (now (input .entry))) (memories (now (access .entry)) (now (records .entry)) (now (words .entry)) count) end (now (input .exit)) (memories (now (access .exit)) (now (records .exit)) (now (words .exit)) (r .words)) (r .held) (r .goes) ⌝ }
+    ensures { λ r. ⌜ r .words ≤ 255 ⌝ }
+{
+    let played = play(access, records, words, count, &input[..end], output);
+    let at = played.at;
+    Stand {
+        held: move_down(input, at, end),
+        words: played.words,
+        goes: played.goes,
+    }
+}
+
 // Reads once, behind the bytes left over, and plays what is there. At the end of the input a field
 // that was cut off is reported.
 fn turn(
@@ -195,6 +259,7 @@ fn turn(
 ) -> Stand
     requires { ⌜ stand .words ≤ 255 ⌝ }
     requires { ⌜ stand .held ≤ length (now input) ⌝ }
+    requires { ⌜ 96 ≤ length (now output) ⌝ }
     ensures { λ r. ⌜ (r .words ≤ 255) × (r .held ≤ length (now (input .entry))) ⌝ }
 {
     let held = stand.held;
@@ -203,7 +268,7 @@ fn turn(
     let more = io::count(got, &input[held..]);
     if more == 0 {
         if 0 < held {
-            write_all(1, b"cut record\n");
+            write_all(1, &cut_line());
         }
         return Stand {
             held: 0,
@@ -212,13 +277,7 @@ fn turn(
         };
     }
     let end = held + more;
-    let played = play(access, records, words, count, &input[..end], output);
-    let at = played.at;
-    Stand {
-        held: move_down(input, at, end),
-        words: played.words,
-        goes: played.goes,
-    }
+    play_held(access, records, words, count, input, end, output)
 }
 
 fn main() {

@@ -1,13 +1,18 @@
--- `replay::move_down` stays within the buffer. Assumes nothing.
-use Prim.Native.Nat.{_≤_, _-_}
-use mathlib.Core.Path.{_≡_}
-use lib.ListN.{length, length-set}
+-- `replay::move_down` meets its contract. The loop's invariant: n bytes are moved, and those behind them stand as they stood.
+-- Assumes nothing.
+use Prim.Native.Nat.{ℕ, _+_, _-_, _≤_}
+use mathlib.Core.Path.{_≡_, refl, sym, ap, _∙_}
+use native.Mathlib.Numerals.{add-one}
 use native.Mathlib.Omega.{arith}
+use lib.ListN.{length, getD, set, take, drop, length-set}
+use denote.Ref.{now}
+use Rattle.replay.proofs.Session.{moved-more, moved-rest}
 use Rattle.replay.proofs.move_down.Statement.{statement}
 use Rattle.replay.proofs.move_down.Tie as tie
 
 abbrev Inv-loop : tie.InvT-loop
-Inv-loop buffer₀ from end left n₀ buffer n = (n ≤ left) × (length buffer ≡ length buffer₀)
+Inv-loop buffer₀ from end left n₀ buffer n =
+    (n ≤ left) × (length buffer ≡ length buffer₀) × (take n buffer ≡ take n (drop from buffer₀)) × (drop n buffer ≡ drop n buffer₀)
 
 abbrev μ-loop : tie.MeasureT-loop
 μ-loop buffer₀ from end left n₀ buffer n = left - n
@@ -16,7 +21,7 @@ sub-left : tie.Need-sub-left Inv-loop μ-loop
 sub-left c = omega arith
 
 loop-holds : tie.Need-loop-holds Inv-loop μ-loop
-loop-holds c = omega arith
+loop-holds c = (omega arith, refl, refl, refl)
 
 add-buffer : tie.Need-add-buffer Inv-loop μ-loop
 add-buffer c = omega arith
@@ -34,13 +39,28 @@ loop-less : tie.Need-loop-less Inv-loop μ-loop
 loop-less c = omega arith
 
 loop-again : tie.Need-loop-again Inv-loop μ-loop
-loop-again c = simp length-set (omega arith)
+loop-again c =
+    let a = c .before .before .before .args in
+    let l = c .before .before .loop in
+    let held = now (a .buffer) in
+    let x = getD (l .buffer) (a .from + l .n) 0 in (
+      omega arith,
+      length-set (l .buffer) (l .n) x ∙ l .inv .1,
+      ap (λ (k : ℕ). take k (set (l .buffer) (l .n) x)) (add-one (l .n))
+          ∙ moved-more held (l .buffer) (a .from) (l .n) (omega arith) (l .inv .1) (l .inv .2) (l .inv .3)
+          ∙ ap (λ (k : ℕ). take k (drop (a .from) held)) (sym (add-one (l .n))),
+      moved-rest held (l .buffer) (a .from) (l .n) x (l .inv .3),
+    )
 
 same-length : tie.Need-same-length Inv-loop μ-loop
 same-length c = omega arith
 
 returns : tie.Need-returns Inv-loop μ-loop
-returns c = omega arith
+returns c =
+    let l = c .before .loop in
+    let a = c .before .before .args in
+    let all : l .n ≡ a .end - a .from = omega arith in
+    (refl, rw all at (l .inv .2))
 
 pub move-down-spec : {M : Type 1} → statement M
 move-down-spec =

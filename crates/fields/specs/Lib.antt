@@ -1,0 +1,2 @@
+-- The fields of a recording.
+pub mod Fields

@@ -1,0 +1,195 @@
+-- Text laid over a buffer: one more byte, and one more piece. Assumes nothing.
+use Prim.Native.Nat.{ℕ, zero, suc, _+_, _*_, _-_, _/_, _%_, _^_, _≤_, _<_}
+use mathlib.Core.Path.{_≡_, refl, sym, ap, ap₂, _∙_}
+use mathlib.Core.List.{List, [], _∷_, _++_, append-assoc, append-nil}
+use native.Mathlib.Nat.{add-assoc, add-zero, pow-suc}
+use native.Mathlib.Omega.{arith}
+use lib.ListN.{length, getD, set, take, drop, length-append, length-drop, length-set, drop-of-length-le}
+use lib.Seq.{take-all, getD-set-same, drop-set-lt, set-at, drop-cons, drop-drop, take-at, take-suc, append-snoc, length-take-le, drop-append-add, paste-zero}
+use mathlib.Core.Bool.{Bool, true, false}
+use mathlib.Core.Logic.{⊎-elim}
+use lib.Dec.{eqb, ltb, lit≤}
+use borrow.Author.Tests.{lt-ltb, le-ltb}
+use Rattle.rules.proofs.Tests.{decide}
+use Rattle.lines.specs.Lines.{decimalIn, hexOf, glyph, answerText, laid, printed, Printed}
+
+-- a piece before the laid text, as long as the place
+head-length : (d : List ℕ) (at : ℕ) (t : List ℕ) → at + length t ≤ length d → length (take at d ++ t) ≡ at + length t
+head-length d at t h =
+    length-append (take at d) t ∙ ap (λ (n : ℕ). n + length t) (length-take-le at d (omega arith))
+
+-- one more byte behind the text
+pub laid-more : (d : List ℕ) (at : ℕ) (t : List ℕ) (x : ℕ) → at + length t < length d
+    → set (laid d at t) (at + length t) x ≡ laid d at (t ++ (x ∷ []))
+laid-more d at t x h =
+    ap (λ (r : List ℕ). set (take at d ++ t ++ r) (at + length t) x) (drop-cons d (at + length t) 0 h)
+    ∙ set-at (take at d ++ t) (getD d (at + length t) 0) (drop (suc (at + length t)) d) x (at + length t) (head-length d at t (omega arith))
+    ∙ sym (append-snoc (take at d ++ t) x (drop (suc (at + length t)) d))
+    ∙ ap (λ (r : List ℕ). r ++ drop (suc (at + length t)) d) (append-assoc (take at d) t (x ∷ []))
+    ∙ ap (λ (n : ℕ). take at d ++ (t ++ (x ∷ [])) ++ drop n d) (size ∙ sym (ap (λ (n : ℕ). at + n) (length-append t (x ∷ []))))
+  where
+    size : suc (at + length t) ≡ at + (length t + 1)
+    size = omega arith
+
+-- nothing laid
+pub laid-none : (d : List ℕ) (at : ℕ) → d ≡ laid d at []
+laid-none d at = paste-zero d at []
+
+-- a second piece, laid behind the first
+pub laid-twice : (d : List ℕ) (at : ℕ) (t u : List ℕ) → at + length t + length u ≤ length d
+    → laid (laid d at t) (at + length t) u ≡ laid d at (t ++ u)
+laid-twice d at t u h =
+    let head = take at d ++ t in
+    let long = head-length d at t (omega arith) in
+    let rest = drop (at + length t) d in
+    ap (λ (l : List ℕ). l ++ u ++ drop (at + length t + length u) (head ++ rest)) (take-at head rest (at + length t) long)
+    ∙ ap (λ (n : ℕ). head ++ u ++ drop (n + length u) (head ++ rest)) (sym long)
+    ∙ ap (λ (l : List ℕ). head ++ u ++ l) (drop-append-add head rest (length u) ∙ drop-drop (length u) (at + length t) d)
+    ∙ ap (λ (l : List ℕ). l ++ drop (at + length t + length u) d) (append-assoc (take at d) t u)
+    ∙ ap (λ (n : ℕ). take at d ++ (t ++ u) ++ drop n d) (add-assoc at (length t) (length u) ∙ ap (λ (n : ℕ). at + n) (sym (length-append t u)))
+
+-- one more byte of a list that is copied
+pub laid-next : (d s : List ℕ) (at i : ℕ) → at + length s ≤ length d → i < length s
+    → set (laid d at (take i s)) (at + i) (getD s i 0) ≡ laid d at (take (suc i) s)
+laid-next d s at i h more =
+    let long : length (take i s) ≡ i = length-take-le i s (omega arith) in
+    ap (λ (n : ℕ). set (laid d at (take i s)) (at + n) (getD s i 0)) (sym long)
+    ∙ laid-more d at (take i s) (getD s i 0) (rw long (omega arith))
+    ∙ ap (laid d at) (sym (take-suc s i 0 more))
+
+-- ---- hexadecimal
+
+pub length-hex : (s : List ℕ) → length (hexOf s) ≡ 2 * length s
+unfolding hexOf
+length-hex [] = refl
+length-hex (b ∷ s) = let ih = length-hex s in omega arith
+
+hex-append : (s t : List ℕ) → hexOf (s ++ t) ≡ hexOf s ++ hexOf t
+unfolding hexOf
+hex-append [] t = refl
+hex-append (b ∷ s) t = ap (λ (l : List ℕ). glyph (b / 16) ∷ glyph (b % 16) ∷ l) (hex-append s t)
+
+-- the two digits of one more byte
+pub laid-hex : (d s : List ℕ) (at i : ℕ) → at + 2 * length s ≤ length d → i < length s
+    → set (set (laid d at (hexOf (take i s))) (at + 2 * i) (glyph (getD s i 0 / 16))) (at + 2 * i + 1) (glyph (getD s i 0 % 16))
+    ≡ laid d at (hexOf (take (suc i) s))
+unfolding hexOf
+laid-hex d s at i h more =
+    let b = getD s i 0 in
+    let t = hexOf (take i s) in
+    let size : length t ≡ 2 * i = length-hex (take i s) ∙ ap (λ (n : ℕ). 2 * n) (length-take-le i s (omega arith)) in
+    let size2 : length (t ++ (glyph (b / 16) ∷ [])) ≡ 2 * i + 1 = length-append t (glyph (b / 16) ∷ []) ∙ ap (λ (n : ℕ). n + 1) size in
+    ap (λ (n : ℕ). set (set (laid d at t) (at + n) (glyph (b / 16))) (at + 2 * i + 1) (glyph (b % 16))) (sym size)
+    ∙ ap (λ (l : List ℕ). set l (at + 2 * i + 1) (glyph (b % 16))) (laid-more d at t (glyph (b / 16)) (omega arith))
+    ∙ ap (λ (n : ℕ). set (laid d at (t ++ (glyph (b / 16) ∷ []))) n (glyph (b % 16))) (add-assoc at (2 * i) 1 ∙ ap (λ (n : ℕ). at + n) (sym size2))
+    ∙ laid-more d at (t ++ (glyph (b / 16) ∷ [])) (glyph (b % 16)) (omega arith)
+    ∙ ap (laid d at)
+    (append-assoc t (glyph (b / 16) ∷ []) (glyph (b % 16) ∷ [])
+    ∙ sym (hex-append (take i s) (b ∷ []))
+    ∙ ap hexOf (sym (take-suc s i 0 more)))
+
+-- ---- decimal digits, from the last on
+
+-- a digit taken off the end of a number that has more
+pub decimal-digit : (k n : ℕ) → 10 ≤ n → decimalIn (suc k) n ≡ decimalIn k (n / 10) ++ ((48 + n % 10) ∷ [])
+unfolding decimalIn
+decimal-digit k n h = rw (le-ltb n 10 h)
+
+pub decimal-last : (k n : ℕ) → n < 10 → decimalIn (suc k) n ≡ (48 + n) ∷ []
+unfolding decimalIn
+decimal-last k n h = rw (lt-ltb n 10 h)
+
+-- a number of one digit, and the space behind it
+pub laid-digit : (d : List ℕ) (at n : ℕ) → at + 2 ≤ length d → n < 10
+    → (at + 2 ≡ at + length (decimalIn 10 n ++ (32 ∷ [])))
+    × (set (set d at (48 + n)) (at + 1) 32 ≡ laid d at (decimalIn 10 n ++ (32 ∷ [])))
+laid-digit d at n fits small =
+    rw (decimal-last 9 n small) (
+      refl,
+      ap₂ (λ (l : List ℕ) (k : ℕ). set (set l k (48 + n)) (at + 1) 32) (laid-none d at) (sym (add-zero at))
+          ∙ ap (λ (l : List ℕ). set l (at + 1) 32) (laid-more d at [] (48 + n) (omega arith))
+          ∙ laid-more d at ((48 + n) ∷ []) 32 (omega arith),
+    )
+
+-- what is left fits the places that are left
+pub places-left : (i n : ℕ) → 10 ≤ n → n < 10 ^ i → (1 < i) × (n / 10 < 10 ^ (i - 1))
+places-left zero n h p = absurd (omega arith)
+places-left (suc zero) n h p = absurd (omega arith)
+places-left (suc (suc i)) n h p = let q : 10 ^ suc (suc i) ≡ 10 ^ suc i * 10 = pow-suc 10 (suc i) in let e : suc (suc i) - 1 ≡ suc i = omega arith in (omega arith, rw e (omega arith))
+
+-- a byte put at place j heads what stands from there on
+drop-set : (l : List ℕ) (j x : ℕ) → j < length l → drop j (set l j x) ≡ x ∷ drop (suc j) l
+drop-set l j x h =
+    drop-cons (set l j x) j 0 (simp length-set h)
+    ∙ ap (λ (y : ℕ). y ∷ drop (suc j) (set l j x)) (getD-set-same l j x 0 h)
+    ∙ ap (λ (r : List ℕ). x ∷ r) (drop-set-lt (suc j) l j x (omega arith))
+
+-- one turn of the digits' loop, and its end
+pub decimal-step : (l : List ℕ) (i n : ℕ) → 1 ≤ i → i ≤ length l → 10 ≤ n
+    → decimalIn (i - 1) (n / 10) ++ drop (i - 1) (set l (i - 1) (48 + n % 10)) ≡ decimalIn i n ++ drop i l
+decimal-step l zero n one h big = absurd (omega arith)
+decimal-step l (suc j) n one h big =
+    let e : suc j - 1 ≡ j = omega arith in
+    rw e
+    (ap (λ (r : List ℕ). decimalIn j (n / 10) ++ r) (drop-set l j (48 + n % 10) h)
+    ∙ sym (append-assoc (decimalIn j (n / 10)) ((48 + n % 10) ∷ []) (drop (suc j) l))
+    ∙ ap (λ (r : List ℕ). r ++ drop (suc j) l) (sym (decimal-digit j n big)))
+
+pub decimal-end : (l : List ℕ) (i n : ℕ) → 1 ≤ i → i ≤ length l → n < 10
+    → drop (i - 1) (set l (i - 1) (48 + n)) ≡ decimalIn i n ++ drop i l
+decimal-end l zero n one h small = absurd (omega arith)
+decimal-end l (suc j) n one h small =
+    let e : suc j - 1 ≡ j = omega arith in
+    rw e (drop-set l j (48 + n) h ∙ ap (λ (r : List ℕ). r ++ drop (suc j) l) (sym (decimal-last j n small)))
+
+-- where the loop begins no digit stands yet
+pub decimal-start : (l : List ℕ) (n : ℕ) → length l ≡ 10 → decimalIn 10 n ++ drop 10 l ≡ decimalIn 10 n
+decimal-start l n size =
+    ap (λ (r : List ℕ). decimalIn 10 n ++ r) (drop-of-length-le l {i = 10} (omega arith)) ∙ append-nil (decimalIn 10 n)
+
+pub length-decimal : (k n : ℕ) → length (decimalIn k n) ≤ k
+unfolding decimalIn
+length-decimal zero n = omega arith
+length-decimal (suc k) n =
+    ⊎-elim (λ t. rw t (omega arith))
+    (λ f.
+    rw f
+    (let ih = length-decimal k (n / 10) in omega (arith, length-append (decimalIn k (n / 10)) ((48 + n % 10) ∷ []))))
+    (decide (ltb n 10))
+
+-- ---- two pieces laid one behind the other
+
+pub laid-both : (held once after : List ℕ) (at next end : ℕ) (t u : List ℕ) → at + length t + length u ≤ length held
+    → next ≡ at + length t → once ≡ laid held at t → end ≡ next + length u → after ≡ laid once next u
+    → (end ≡ at + length (t ++ u)) × (after ≡ laid held at (t ++ u))
+laid-both held once after at next end t u fits n o e a = (
+  e
+      ∙ ap (λ (k : ℕ). k + length u) n
+      ∙ add-assoc at (length t) (length u)
+      ∙ ap (λ (k : ℕ). at + k) (sym (length-append t u)),
+  a ∙ ap₂ (λ (l : List ℕ) (k : ℕ). laid l k u) o n ∙ laid-twice held at t u fits,
+)
+
+-- the whole end of a list of ten
+pub take-end : (l : List ℕ) (i : ℕ) → length l ≡ 10 → take (10 - i) (drop i l) ≡ drop i l
+take-end l i size = take-all (10 - i) (drop i l) (rw length-drop (omega arith))
+
+-- ---- how long the pieces of a line are
+
+pub number-short : (n : ℕ) → length (decimalIn 10 n ++ (32 ∷ [])) ≤ 11
+number-short n = let few = length-decimal 10 n in omega (arith, length-append (decimalIn 10 n) (32 ∷ []))
+
+pub answer-short : (bytes : List ℕ) → length bytes ≤ 29 → length (answerText bytes) ≤ 58
+unfolding answerText
+answer-short bytes h =
+    ⊎-elim (λ t. rw t (omega arith)) (λ f. rw f (let size = length-hex bytes in omega arith)) (decide (eqb (length bytes) 0))
+
+-- ---- a whole line printed, or nothing
+
+module _ (line text : List ℕ) (room : Bool) where
+  pub nothing-printed : room ≡ false → Printed line (printed room text) line 0
+  nothing-printed none = record { count = rw none; over = rw none (laid-none line 0); short = lit≤ tt }
+
+  pub all-printed : (line′ : List ℕ) (n : ℕ) → room ≡ true → n ≡ length text → line′ ≡ laid line 0 text → n ≤ 96
+      → Printed line (printed room text) line′ n
+  all-printed line′ n all count over short = record { count = rw all count; over = rw all over; short = short }

@@ -1,0 +1,2 @@
+-- The printed lines.
+pub mod Lines

@@ -1,0 +1,193 @@
+// The lines that a session prints, laid over the start of a lent buffer. The rules are specs/Lines.antt.
+// Text is laid piece by piece: each piece from a place on, giving the place behind it.
+ghost use mathlib.Core.List.{_++_, _∷_, []};
+ghost use mathlib.Core.Path.{_≡_};
+ghost use mathlib.Core.Bool.{_&&_};
+ghost use lib.Dec.{leb};
+ghost use Prim.Native.Nat.{_+_, _-_, _*_, _≤_, _<_};
+ghost use lib.ListN.{length, take, drop};
+ghost use Rattle.lines.specs.Lines.{outcomeName, decimalOf, glyph as digit, hexOf, answerText, verdictText, listLine, outcomeText, messageLine, badLine, cutLine, laid, hasRoom, printed, Printed};
+use messages::outcome_number;
+use messages::verdict_number;
+use rules::Report;
+use rules::Verdict;
+
+// The bytes that any line fits in.
+pub const ROOM: usize = 96;
+
+// Lays `bytes` over the line.
+fn append(line: &mut [u8], at: usize, bytes: &[u8]) -> usize
+    requires { ⌜ at + length (now bytes) ≤ length (now line) ⌝ }
+    ensures { λ r. ⌜ r ≡ at + length (now (bytes .entry)) ⌝ }
+    ensures { λ _. ⌜ now (line .exit) ≡ laid (now (line .entry)) at (now (bytes .entry)) ⌝ }
+{
+    let mut i = 0;
+    while i < bytes.len() {
+        line[at + i] = bytes[i];
+        i += 1;
+    }
+    at + i
+}
+
+// Puts the decimal digits of a number at the end of `digits`, and gives the place of the first.
+fn decimal(number: u32, digits: &mut [u8]) -> usize
+    requires { ⌜ length (now digits) ≡ 10 ⌝ }
+    ensures { λ r. ⌜ r < 10 ⌝ }
+    ensures { λ r. ⌜ take (10 - r) (drop r (now (digits .exit))) ≡ decimalOf number ⌝ }
+{
+    let mut rest = number;
+    let mut i = 10;
+    while 10 <= rest {
+        i -= 1;
+        digits[i] = 48 + (rest % 10) as u8;
+        rest /= 10;
+    }
+    i -= 1;
+    digits[i] = 48 + rest as u8;
+    i
+}
+
+// A hexadecimal digit, in lower case.
+fn glyph(d: u8) -> u8
+    requires { ⌜ d < 16 ⌝ }
+    ensures { λ r. ⌜ r ≡ digit d ⌝ }
+{
+    let gap = if d < 10 { 0 } else { 39 };
+    48 + d + gap
+}
+
+// Lays bytes over the line in hexadecimal, two digits for each.
+fn append_hex(line: &mut [u8], at: usize, bytes: &[u8]) -> usize
+    requires { ⌜ at + 2 * length (now bytes) ≤ length (now line) ⌝ }
+    ensures { λ r. ⌜ r ≡ at + length (hexOf (now (bytes .entry))) ⌝ }
+    ensures { λ _. ⌜ now (line .exit) ≡ laid (now (line .entry)) at (hexOf (now (bytes .entry))) ⌝ }
+{
+    let mut i = 0;
+    while i < bytes.len() {
+        line[at + 2 * i] = glyph(bytes[i] / 16);
+        line[at + 2 * i + 1] = glyph(bytes[i] % 16);
+        i += 1;
+    }
+    at + 2 * i
+}
+
+// Lays a number in decimal over the line, and a space behind it.
+fn append_digits(line: &mut [u8], at: usize, number: u32) -> usize
+    requires { ⌜ at + 11 ≤ length (now line) ⌝ }
+    ensures { λ r. ⌜ r ≡ at + length (decimalOf number ++ (32 ∷ [])) ⌝ }
+    ensures { λ _. ⌜ now (line .exit) ≡ laid (now (line .entry)) at (decimalOf number ++ (32 ∷ [])) ⌝ }
+{
+    let mut digits = [0u8; 10];
+    let first = decimal(number, &mut digits);
+    let next = append(line, at, &digits[first..]);
+    append(line, next, b" ")
+}
+
+// The same; a number below ten, as most are, is one digit.
+fn append_number(line: &mut [u8], at: usize, number: u32) -> usize
+    requires { ⌜ at + 11 ≤ length (now line) ⌝ }
+    ensures { λ r. ⌜ r ≡ at + length (decimalOf number ++ (32 ∷ [])) ⌝ }
+    ensures { λ _. ⌜ now (line .exit) ≡ laid (now (line .entry)) at (decimalOf number ++ (32 ∷ [])) ⌝ }
+{
+    if number < 10 {
+        line[at] = 48 + number as u8;
+        line[at + 1] = b' ';
+        return at + 2;
+    }
+    append_digits(line, at, number)
+}
+
+// Lays an answer over the line: in hexadecimal, or `-` where there is none.
+fn append_answer(line: &mut [u8], at: usize, bytes: &[u8]) -> usize
+    requires { ⌜ at + 2 * length (now bytes) < length (now line) ⌝ }
+    ensures { λ r. ⌜ r ≡ at + length (answerText (now (bytes .entry))) ⌝ }
+    ensures { λ _. ⌜ now (line .exit) ≡ laid (now (line .entry)) at (answerText (now (bytes .entry))) ⌝ }
+{
+    if bytes.len() == 0 {
+        return append(line, at, b"-");
+    }
+    append_hex(line, at, bytes)
+}
+
+// The line of a list, by the verdict's number.
+fn list_text(number: u32) -> [u8; 8]
+    requires { ⌜ number ≤ 8 ⌝ }
+    ensures { λ r. ⌜ r ≡ verdictText number ⌝ }
+{
+    if number == 0 {
+        return [b'l', b'i', b's', b't', b' ', b'O', b'K', b'\n'];
+    }
+    [b'l', b'i', b's', b't', b' ', b'A', 48 + number as u8, b'\n']
+}
+
+// An outcome's name, by its number, and a space behind it.
+fn name_text(number: u32) -> [u8; 3]
+    requires { ⌜ number ≤ 103 ⌝ }
+    ensures { λ r. ⌜ r ≡ outcomeName number ++ (32 ∷ []) ⌝ }
+{
+    if number == 0 {
+        return [b'O', b'K', b' '];
+    }
+    if number < 100 {
+        return [b'N', 48 + number as u8, b' '];
+    }
+    [b'R', (number - 52) as u8, b' ']
+}
+
+// The line of a list. Gives its length: 0 where there is no room, and nothing is written.
+pub fn print_list(line: &mut [u8], verdict: Verdict) -> usize
+    ensures { λ r. ⌜ Printed (now (line .entry)) (printed (hasRoom (now (line .entry))) (listLine verdict)) (now (line .exit)) r ⌝ }
+{
+    if line.len() < ROOM {
+        return 0;
+    }
+    let text = list_text(verdict_number(verdict));
+    append(line, 0, &text)
+}
+
+// The line of a message.
+fn write_line(line: &mut [u8], number: u32, checks: u32, micros: u32, bytes: &[u8]) -> usize
+    requires { ⌜ 96 ≤ length (now line) ⌝ }
+    requires { ⌜ number ≤ 103 ⌝ }
+    requires { ⌜ length (now bytes) ≤ 29 ⌝ }
+    ensures { λ r. ⌜ r ≡ length (outcomeText number checks micros (now (bytes .entry))) ⌝ }
+    ensures { λ r. ⌜ r ≤ 96 ⌝ }
+    ensures { λ _. ⌜ now (line .exit) ≡ laid (now (line .entry)) 0 (outcomeText number checks micros (now (bytes .entry))) ⌝ }
+{
+    let name = name_text(number);
+    let after_name = append(line, 0, &name);
+    let after_checks = append_number(line, after_name, checks);
+    let after_micros = append_number(line, after_checks, micros);
+    let after_answer = append_answer(line, after_micros, bytes);
+    append(line, after_answer, b"\n")
+}
+
+// The line of a message, of what the call reports and the bytes of its answer. Gives its length: 0
+// where there is no room or the answer is too long, and nothing is written.
+pub fn print_message(line: &mut [u8], told: Report, bytes: &[u8]) -> usize
+    ensures { λ r. ⌜ Printed (now (line .entry)) (printed (hasRoom (now (line .entry)) && leb (length (now (bytes .entry))) 29) (messageLine told (now (bytes .entry)))) (now (line .exit)) r ⌝ }
+{
+    if line.len() < ROOM {
+        return 0;
+    }
+    if 29 < bytes.len() {
+        return 0;
+    }
+    let outcome = told.outcome;
+    let number = outcome_number(outcome);
+    write_line(line, number, told.checks, told.micros, bytes)
+}
+
+// What a bad record prints.
+pub fn bad_line() -> [u8; 11]
+    ensures { λ r. ⌜ r ≡ badLine ⌝ }
+{
+    *b"bad record\n"
+}
+
+// What a field that is cut off prints.
+pub fn cut_line() -> [u8; 11]
+    ensures { λ r. ⌜ r ≡ cutLine ⌝ }
+{
+    *b"cut record\n"
+}

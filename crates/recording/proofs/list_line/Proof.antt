@@ -1,0 +1,28 @@
+-- `recording::list_line` meets its contract: the list call, and its line. Assumes nothing.
+use denote.Ref.{now}
+use Rattle.recording.proofs.Messages.{list-refused, list-played}
+use borrow.Author.Needs.{needs}
+use Rattle.recording.proofs.list_line.Statement.{statement}
+use Rattle.recording.proofs.list_line.Tie as tie
+
+returns : tie.Need-returns
+returns c = list-refused _ _ _ (c .if1 .taken)
+
+offer-list-requires : tie.Need-offer-list-requires
+offer-list-requires c κs = search needs
+
+print-list-requires : tie.Need-print-list-requires
+print-list-requires c κs = search needs
+
+same-length : tie.Need-same-length
+same-length c = search needs
+
+returns-2 : tie.Need-returns-2
+returns-2 c =
+    let a = c .before .before .before .before .before .before .before .before .before .args in
+    list-played (now (a .access)) (now (a .body)) (now (a .line)) _ _ (c .before .before .before .offer-list .result) _ (c .before .before .before .before .before .before .if1 .left) (c .before .before .before .offer-list .ensures)
+    (c .before .before .print-list .ensures)
+
+pub list-line-spec : {M : Type 1} → statement M
+list-line-spec =
+    tie.close (tie.spec returns offer-list-requires print-list-requires same-length returns-2)

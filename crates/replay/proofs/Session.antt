@@ -1,0 +1,139 @@
+-- A field carried out by its tag, the place of the next line, what a bad record ends, and bytes moved down. Assumes nothing.
+use Prim.Native.Nat.{ℕ, zero, suc, _+_, _-_, _≤_, _<_}
+use mathlib.Core.Path.{_≡_, refl, sym, ap, ap₂, _∙_, subst⁻¹}
+use mathlib.Core.Bool.{Bool, true, false, _&&_, not}
+use mathlib.Core.List.{List, [], _∷_, _++_}
+use native.Mathlib.Nat.{add-comm, zero-add, suc-add, add-sub-cancel-left}
+use native.Mathlib.Omega.{arith}
+use lib.ListN.{length, getD, set, take, drop, length-take, length-drop}
+use lib.Seq.{take-nil, take-suc, take-suc-set, drop-set-lt, drop-drop, getD-drop}
+use borrow.Author.Tests.{le-leb, lt-leb}
+use Rattle.rules.specs.Answer.{bufferAfter}
+use Rattle.fields.specs.declared.Found.the-variants.{Whole}
+use Rattle.fields.specs.Fields.{foundAt, wordsOf}
+use Rattle.recording.specs.Played.{PlayedList, PlayedMessage}
+use Rattle.replay.specs.Session.{PlayedField, LeftOver, Memories, memories, Reached, behind, waits, roomLeft, placeIn}
+
+-- ---- a field by its tag
+
+module _ (tag count : ℕ) (body access records words line : List ℕ) where
+  pub list-field : (access′ line′ : List ℕ) (n : ℕ) → tag ≡ 1 → PlayedList access body line access′ line′ n
+      → PlayedField tag count body access records words line access′ records words line′ n count
+  list-field access′ line′ n is played =
+      record {
+        list = λ _. played;
+        status = λ e. absurd (omega arith);
+        message = λ f g. absurd (f is);
+        access-kept = λ f. absurd (f is);
+        words-kept = λ _. (refl, refl);
+        list-keeps = λ _. refl;
+        status-keeps = λ _. refl;
+      }
+
+  pub status-field : (words′ : List ℕ) (stand : ℕ) → tag ≡ 2
+      → stand ≡ length (take 255 (wordsOf body)) → words′ ≡ bufferAfter (take 255 (wordsOf body)) words
+      → PlayedField tag count body access records words line access records words′ line 0 stand
+  status-field words′ stand is size laid =
+      record {
+        list = λ e. absurd (omega arith);
+        status = λ _. record { count = size; memory = laid; silent = refl; kept = refl };
+        message = λ f g. absurd (g is);
+        access-kept = λ _. refl;
+        words-kept = λ f. absurd (f is);
+        list-keeps = λ _. refl;
+        status-keeps = λ _. refl;
+      }
+
+  pub message-field : (records′ line′ : List ℕ) (n : ℕ) → (tag ≡ 1 → ⊥) → (tag ≡ 2 → ⊥)
+      → PlayedMessage access records body (take count words) line records′ line′ n
+      → PlayedField tag count body access records words line access records′ words line′ n count
+  message-field records′ line′ n one two played =
+      record {
+        list = λ e. absurd (one e);
+        status = λ e. absurd (two e);
+        message = λ _ _. played;
+        access-kept = λ _. refl;
+        words-kept = λ _. (refl, refl);
+        list-keeps = λ e. absurd (one e);
+        status-keeps = λ e. absurd (two e);
+      }
+
+-- ---- the place of the next line
+
+module _ (out : List ℕ) (used : ℕ) where
+  pub place-behind : 96 ≤ length out - used → used ≡ placeIn out used
+  place-behind h = rw (le-leb 96 (length out - used) h)
+
+  pub no-room-left : length out - used < 96 → roomLeft out used ≡ false
+  no-room-left h = lt-leb 96 (length out - used) h
+
+  pub place-anew : length out - used < 96 → 0 ≡ placeIn out used
+  place-anew h = rw (no-room-left h)
+
+  -- the rest of the buffer from a place on
+  pub rest-long : used + 96 ≤ length out → 96 ≤ length (take (length out - used) (drop used out))
+  rest-long h = simp (length-take, length-drop) (omega arith)
+
+-- ---- a bad record ends the session
+
+pub bad-ends : (bad written goes is : Bool) → bad ≡ is → goes ≡ (not bad && written) → is ≡ true → goes ≡ false
+bad-ends bad written goes is same told yea = told ∙ ap (λ (b : Bool). not b && written) (same ∙ yea)
+
+-- ---- one more byte moved down
+
+module _ (held now : List ℕ) (from n : ℕ) where
+  pub moved-more : from + n < length held → length now ≡ length held → take n now ≡ take n (drop from held) → drop n now ≡ drop n held
+      → take (suc n) (set now n (getD now (from + n) 0)) ≡ take (suc n) (drop from held)
+  moved-more inside size moved rest =
+      let byte : getD now (from + n) 0 ≡ getD (drop from held) n 0 =
+      ap (λ (k : ℕ). getD now k 0) (add-comm from n)
+      ∙ sym (getD-drop n now from 0)
+      ∙ ap (λ (l : List ℕ). getD l from 0) rest
+      ∙ getD-drop n held from 0
+      ∙ ap (λ (k : ℕ). getD held k 0) (add-comm n from)
+      ∙ sym (getD-drop from held n 0)
+      in
+      take-suc-set now n (getD now (from + n) 0) (omega arith)
+      ∙ ap₂ (λ (l : List ℕ) (x : ℕ). l ++ (x ∷ [])) moved byte
+      ∙ sym (take-suc (drop from held) n 0 (rw length-drop (omega arith)))
+
+  pub moved-rest : (x : ℕ) → drop n now ≡ drop n held → drop (n + 1) (set now n x) ≡ drop (n + 1) held
+  moved-rest x rest =
+      drop-set-lt (n + 1) now n x (omega arith) ∙ sym (drop-drop 1 n now) ∙ ap (drop 1) rest ∙ drop-drop 1 n held
+
+-- ---- fields in their order
+
+module _ (buffer : List ℕ) (m : Memories) (at : ℕ) (access records words : List ℕ) (stand : ℕ) (reached : Reached buffer m at (memories access records words stand)) where
+  pub reached-same : (at′ stand′ : ℕ) → at′ ≡ at → stand′ ≡ stand → Reached buffer m at′ (memories access records words stand′)
+  reached-same at′ stand′ p q = rw (p, q) reached
+
+  pub reached-next : (tag n : ℕ) (line line′ access′ records′ words′ : List ℕ) (k stand′ : ℕ) → foundAt buffer at ≡ Whole tag n
+      → 96 ≤ length line
+      → PlayedField tag stand (take (at + 3 + n - (at + 3)) (drop (at + 3) buffer)) access records words line access′ records′ words′ line′ k stand′
+      → Reached buffer m (at + 3 + n) (memories access′ records′ words′ stand′)
+  reached-next tag n line line′ access′ records′ words′ k stand′ found long played =
+      behind tag n line line′ access′ records′ words′ k stand′ reached found (le-leb 96 (length line) long) (rw (add-sub-cancel-left (at + 3) n) at played)
+
+-- ---- what is left over
+
+-- the end of a beginning is the beginning of the end
+drop-of-take : (at n : ℕ) (l : List ℕ) → take n (drop at l) ≡ drop at (take (at + n) l)
+drop-of-take zero n l = ap (λ (k : ℕ). take k l) (sym (zero-add n))
+drop-of-take (suc at) n [] = take-nil n ∙ sym (ap (drop (suc at)) (take-nil (suc at + n)))
+drop-of-take (suc at) n (x ∷ l) = drop-of-take at n l ∙ ap (λ (k : ℕ). drop (suc at) (take k (x ∷ l))) (sym (suc-add at n))
+
+pub left-over : (input next : List ℕ) (m m′ : Memories) (end at held : ℕ) (goes : Bool) → at ≤ end → held ≡ end - at
+    → Reached (take end input) m at m′ → take held next ≡ take held (drop at input) → (goes ≡ true → waits (foundAt (take end input) at) ≡ true)
+    → LeftOver (take end input) m end next m′ held goes
+left-over input next m m′ end at held goes inside is there moved more =
+    let back : end - held ≡ at = omega arith in
+    let whole : at + held ≡ end = omega arith in
+    record {
+      within = omega arith;
+      place = subst⁻¹ (λ (k : ℕ). Reached (take end input) m k m′) back there;
+      moved =
+          moved
+          ∙ drop-of-take at held input
+          ∙ ap₂ (λ (k n : ℕ). drop k (take n input)) (sym back) whole;
+      more = λ on. subst⁻¹ (λ (k : ℕ). waits (foundAt (take end input) k) ≡ true) back (more on);
+    }

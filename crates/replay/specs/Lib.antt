@@ -1,0 +1,2 @@
+-- What the program promises of a session.
+pub mod Session

@@ -1,0 +1,78 @@
+-- What the program promises of a session: how a whole field is carried out, by its tag, and where lines are gathered. Assumes nothing.
+use Prim.Native.Nat.{ℕ, _+_, _-_, _≤_}
+use mathlib.Core.Path.{_≡_}
+use mathlib.Core.Bool.{Bool, true, false, cond}
+use mathlib.Core.List.{List}
+use lib.ListN.{length, take, drop}
+use lib.Dec.{leb}
+use Rattle.rules.specs.Answer.{bufferAfter}
+use Rattle.fields.specs.declared.Found.{Found}
+use Rattle.fields.specs.declared.Found.the-variants.{Whole, Bad, Partial, Nothing}
+use Rattle.fields.specs.Fields.{foundAt, wordsOf}
+use Rattle.lines.specs.Lines.{hasRoom}
+use Rattle.recording.specs.Played.{PlayedList, PlayedMessage}
+
+-- the status words of a field stand from now on, and nothing is printed
+pub record TakenWords (body words line words′ line′ : List ℕ) (n stand : ℕ) : Type 0 where
+  pub count : stand ≡ length (take 255 (wordsOf body))
+  pub memory : words′ ≡ bufferAfter (take 255 (wordsOf body)) words
+  pub silent : n ≡ 0
+  pub kept : line′ ≡ line
+
+-- tag 1 is a list, 2 status words, any other a message with the words that stand; what a tag does not concern is kept
+pub record PlayedField (tag count : ℕ) (body access records words line access′ records′ words′ line′ : List ℕ) (n stand : ℕ) : Type 0 where
+  pub list : tag ≡ 1 → PlayedList access body line access′ line′ n
+  pub status : tag ≡ 2 → TakenWords body words line words′ line′ n stand
+  pub message : (tag ≡ 1 → ⊥) → (tag ≡ 2 → ⊥) → PlayedMessage access records body (take count words) line records′ line′ n
+  pub access-kept : (tag ≡ 1 → ⊥) → access′ ≡ access
+  pub words-kept : (tag ≡ 2 → ⊥) → (words′ ≡ words) × (stand ≡ count)
+  pub list-keeps : tag ≡ 1 → records′ ≡ records
+  pub status-keeps : tag ≡ 2 → records′ ≡ records
+
+-- a bad record
+abbrev pub isBad : Found → Bool
+isBad (Whole tag n) = false
+isBad Bad = true
+isBad Partial = false
+isBad Nothing = false
+
+-- what a session goes on from: the beginning of a field, with more to come, and the end of what was read
+abbrev pub waits : Found → Bool
+waits (Whole tag n) = false
+waits Bad = false
+waits Partial = true
+waits Nothing = true
+
+-- the two memories, the status words, and how many of these stand
+pub record Memories : Type 0 where
+  pub access : List ℕ
+  pub records : List ℕ
+  pub words : List ℕ
+  pub stand : ℕ
+
+abbrev pub memories : List ℕ → List ℕ → List ℕ → ℕ → Memories
+memories access records words stand = record { access = access; records = records; words = words; stand = stand }
+
+-- a buffer's fields carried out in their order: none, up to the start, or one more, behind those before it and with room for its line
+pub data Reached : List ℕ → Memories → ℕ → Memories → Type 0 where
+  start : {buffer : List ℕ} {m : Memories} → Reached buffer m 0 m
+  behind : {buffer : List ℕ} {m : Memories} {at : ℕ} {m′ : Memories} (tag n : ℕ) (line line′ access records words : List ℕ) (k stand : ℕ)
+      → Reached buffer m at m′
+      → foundAt buffer at ≡ Whole tag n
+      → hasRoom line ≡ true
+      → PlayedField tag (m′ .stand) (take n (drop (at + 3) buffer)) (m′ .access) (m′ .records) (m′ .words) line access records words line′ k stand
+      → Reached buffer m (at + 3 + n) (memories access records words stand)
+
+-- whether a line fits behind the bytes that are gathered, and where it goes: there, or to the start once they are written
+abbrev pub roomLeft : List ℕ → ℕ → Bool
+roomLeft out used = leb 96 (length out - used)
+
+abbrev pub placeIn : List ℕ → ℕ → ℕ
+placeIn out used = cond (roomLeft out used) used 0
+
+-- what a buffer of `end` bytes leaves: its last bytes, at the start of the next; the session goes on only where more may come there
+pub record LeftOver (buffer : List ℕ) (m : Memories) (end : ℕ) (buffer′ : List ℕ) (m′ : Memories) (held : ℕ) (goes : Bool) : Type 0 where
+  pub within : held ≤ end
+  pub place : Reached buffer m (end - held) m′
+  pub moved : take held buffer′ ≡ drop (end - held) buffer
+  pub more : goes ≡ true → waits (foundAt buffer (end - held)) ≡ true
