@@ -1,11 +1,10 @@
 -- Who is permitted by the words of a row. Assumes nothing.
 use Prim.Native.Nat.{ℕ, _+_, _*_}
 use mathlib.Core.Path.{_≡_}
-use mathlib.Core.Bool.{false, not, _&&_, _||_, or-assoc, or-false}
+use mathlib.Core.Bool.{false, not, _&&_, _||_}
 use mathlib.Core.List.{List}
 use lib.ListN.{getD}
 use lib.Dec.{eqb}
-use Rattle.rules.specs.Table.{anyOf}
 use Rattle.rules.specs.Board.{ours, activeHost}
 use Rattle.rules.specs.AccessList.{hasEntry, isMaster, isSecondary, permitted}
 use Rattle.access.specs.Memory.{entryAt}
@@ -21,5 +20,5 @@ pub closed-row : (m : List ℕ) (row h : ℕ) → eqb (getD m (1 + 4 * row) 0) 0
     ≡ (eqb (getD m (1 + 4 * row) 0) h
     || (not (eqb h 0)
     && (eqb (getD m (1 + 4 * row + 1) 0) h || eqb (getD m (1 + 4 * row + 2) 0) h || eqb (getD m (1 + 4 * row + 3) 0) h)))
-unfolding permitted hasEntry isMaster isSecondary entryAt anyOf
-closed-row m row h some = rw some (simp (or-assoc, or-false))
+unfolding permitted hasEntry isMaster isSecondary entryAt
+closed-row m row h some = rw some

@@ -1,3 +1,2 @@
--- What the lent access memory holds, and the steps of the judge of a list.
-pub mod Judged
+-- What the lent access memory holds.
 pub mod Memory

@@ -2,13 +2,14 @@
 -- words: the recovery master and the three secondaries; zeros are no entry. Any content is a state. Assumes nothing.
 use Prim.Native.Nat.{ℕ, zero, suc, _+_, _*_}
 use mathlib.Core.Bool.{Bool, not, cond}
-use mathlib.Core.List.{List, [], _∷_, _++_}
+use mathlib.Core.List.{List, [], _∷_}
 use lib.ListN.{getD}
-use lib.Seq.{sets}
 use lib.Dec.{eqb}
-use Rattle.rules.specs.Board.{ours, rows, rowOf, onBoard}
-use Rattle.rules.specs.AccessList.{Entry, partAt, processorIn, masterIn, secondariesIn, withPart, noEntries, entriesOf, verdictOf}
-use Rattle.rules.specs.Call.{accepted}
+use Rattle.rules.specs.declared.Record.{Record}
+use Rattle.rules.specs.Board.{ours, rows}
+use Rattle.rules.specs.AccessList.{Entry}
+use Rattle.rules.specs.Outcome.{View}
+use Rattle.rules.specs.State.{Source, nothing, aList, listed, Setup}
 
 -- what f says of n rows, from `row` on
 unfoldable pub byRow : {A : Type 0} → (ℕ → A) → ℕ → ℕ → List A
@@ -26,31 +27,26 @@ unfoldable pub entryAt : List ℕ → ℕ → Entry
 entryAt m row =
     record {
       master = getD m (entryPlace row) 0;
-      secondaries = getD m (entryPlace row + 1) 0 ∷ getD m (entryPlace row + 2) 0 ∷ getD m (entryPlace row + 3) 0 ∷ [];
+      first = getD m (entryPlace row + 1) 0;
+      second = getD m (entryPlace row + 2) 0;
+      third = getD m (entryPlace row + 3) 0;
     }
 
 unfoldable pub entriesIn : List ℕ → List Entry
 entriesIn m = byRow (entryAt m) 0 (rows ours)
 
--- ---- the list call
+-- that a list was accepted, without its bytes: the memory does not keep them, and no outcome, answer or record depends on them
+unfoldable pub someList : Bool → Source
+someList taken = cond taken (aList []) nothing
 
--- each entry's master followed by its secondaries
-unfoldable pub wordsOf : List Entry → List ℕ
-wordsOf [] = []
-wordsOf (e ∷ es) = (e .master ∷ e .secondaries) ++ wordsOf es
+-- the rules' set-up, read out of the memory
+unfoldable pub setupIn : List ℕ → Setup
+setupIn m = record { board = ours; source = someList (listedIn m); entries = entriesIn m }
 
--- the memory after a list call: 1 and the entries' words, by row; a refused list changes nothing
-unfoldable pub accessAfter : List ℕ → List ℕ → List ℕ
-accessAfter m list = cond (accepted (verdictOf ours (listedIn m) list)) (1 ∷ wordsOf (entriesOf ours list)) m
+-- what the memory keeps of a set-up
+unfoldable pub keptSetup : Setup → Setup
+keptSetup setup = record { board = setup .board; source = someList (listed (setup .source)); entries = setup .entries }
 
--- the memory once an entry's words are put at its row; an unused entry's processor 0 has none
-unfoldable pub putEntry : List ℕ → List ℕ → List ℕ
-putEntry part m =
-    cond (onBoard ours (processorIn part))
-    (sets m (entryPlace (rowOf ours (processorIn part))) (masterIn part ∷ secondariesIn part))
-    m
-
--- the entries that the list's first e parts leave
-unfoldable pub entriesBefore : List ℕ → ℕ → List Entry
-entriesBefore list zero = noEntries ours
-entriesBefore list (suc e) = withPart ours (partAt list e) (entriesBefore list e)
+-- what a call about the processor at a row sees, with its record at hand
+abbrev pub viewWith : List ℕ → ℕ → Record → View
+viewWith m row state = record { board = ours; listed = listedIn m; entry = entryAt m row; state = state }

@@ -17,14 +17,17 @@ const MASKS: [[u32; 2]; 2] = [[0xFF03, 0x3], [0x10F, 0x103]];
 pub fn is_host(host: u16) -> bool
     ensures { λ r. ⌜ r ≡ boardHost ours host ⌝ }
 {
-    (host == 0)
-        | (host == 3)
-        | (host == 10)
-        | (host == 4)
-        | (host == 5)
-        | (host == 6)
-        | (host == 12)
-        | (host == 13)
+    match host {
+        0 => true,
+        3 => true,
+        10 => true,
+        4 => true,
+        5 => true,
+        6 => true,
+        12 => true,
+        13 => true,
+        _ => false,
+    }
 }
 
 // Whether `host` is on the board and not 0, the management firmware, which never sends or controls.

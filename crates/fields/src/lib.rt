@@ -1,10 +1,11 @@
 // A recording's fields: what stands at a place of a buffer, and the status words that a field holds.
 // The rules are specs/Fields.antt.
 ghost use mathlib.Core.Path.{_≡_};
-ghost use Prim.Native.Nat.{_+_, _*_, _≤_, _<_};
+ghost use Prim.Native.Nat.{_≤_, _<_};
 ghost use lib.ListN.{length, take};
 ghost use Rattle.rules.specs.Answer.{bufferAfter};
 ghost use Rattle.fields.specs.Fields.{tagGood, lengthGood, foundAt, wordsOf};
+use wire::joined;
 
 // What stands at a place of a buffer.
 pub enum Found {
@@ -23,13 +24,6 @@ fn wide(byte: u8) -> u16
     ensures { λ r. ⌜ (r ≡ byte) × (r < 256) ⌝ }
 {
     byte as u16
-}
-
-// The number that four bytes say, lowest first. From four bytes in a row it becomes one load.
-fn joined(a: u8, b: u8, c: u8, d: u8) -> u32
-    ensures { λ r. ⌜ r ≡ a + 256 * b + 65536 * c + 16777216 * d ⌝ }
-{
-    a as u32 + 256 * (b as u32) + 65536 * (c as u32) + 16777216 * (d as u32)
 }
 
 // Whether a tag is one of the three.

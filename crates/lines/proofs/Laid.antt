@@ -1,22 +1,32 @@
 -- Text laid over a buffer: one more byte, and one more piece. Assumes nothing.
-use Prim.Native.Nat.{ℕ, zero, suc, _+_, _*_, _-_, _/_, _%_, _^_, _≤_, _<_}
+use Prim.Native.Nat.{ℕ, suc, _+_, _*_, _/_, _%_, _≤_, _<_}
 use mathlib.Core.Path.{_≡_, refl, sym, ap, ap₂, _∙_}
-use mathlib.Core.List.{List, [], _∷_, _++_, append-assoc, append-nil}
-use native.Mathlib.Nat.{add-assoc, add-zero, pow-suc}
+use mathlib.Core.List.{List, [], _∷_, _++_, append-assoc}
+use native.Mathlib.Nat.{add-assoc}
 use native.Mathlib.Omega.{arith}
-use lib.ListN.{length, getD, set, take, drop, length-append, length-drop, length-set, drop-of-length-le}
-use lib.Seq.{take-all, getD-set-same, drop-set-lt, set-at, drop-cons, drop-drop, take-at, take-suc, append-snoc, length-take-le, drop-append-add, paste-zero}
+use lib.ListN.{length, getD, set, take, drop, length-append, length-set}
+use lib.Seq.{getD-set-same, drop-set-lt, take-set-le, set-at, drop-cons, drop-drop, take-at, take-suc, append-snoc, length-take-le, drop-append-add, paste-zero}
 use mathlib.Core.Bool.{Bool, true, false}
 use mathlib.Core.Logic.{⊎-elim}
-use lib.Dec.{eqb, ltb, lit≤}
-use borrow.Author.Tests.{lt-ltb, le-ltb}
+use lib.Dec.{eqb, lit≤}
 use Rattle.rules.proofs.Tests.{decide}
-use Rattle.lines.specs.Lines.{decimalIn, hexOf, glyph, answerText, laid, printed, Printed}
+use Rattle.lines.specs.Lines.{hexOf, glyph, answerText, laid, printed, Printed}
 
 -- a piece before the laid text, as long as the place
 head-length : (d : List ℕ) (at : ℕ) (t : List ℕ) → at + length t ≤ length d → length (take at d ++ t) ≡ at + length t
 head-length d at t h =
     length-append (take at d) t ∙ ap (λ (n : ℕ). n + length t) (length-take-le at d (omega arith))
+
+-- a text with one more byte, and what was held behind it
+laid-snoc : (d : List ℕ) (at : ℕ) (t : List ℕ) (x : ℕ)
+    → take at d ++ t ++ (x ∷ drop (suc (at + length t)) d) ≡ laid d at (t ++ (x ∷ []))
+laid-snoc d at t x =
+    sym (append-snoc (take at d ++ t) x (drop (suc (at + length t)) d))
+    ∙ ap (λ (r : List ℕ). r ++ drop (suc (at + length t)) d) (append-assoc (take at d) t (x ∷ []))
+    ∙ ap (λ (n : ℕ). take at d ++ (t ++ (x ∷ [])) ++ drop n d) (size ∙ sym (ap (λ (n : ℕ). at + n) (length-append t (x ∷ []))))
+  where
+    size : suc (at + length t) ≡ at + (length t + 1)
+    size = omega arith
 
 -- one more byte behind the text
 pub laid-more : (d : List ℕ) (at : ℕ) (t : List ℕ) (x : ℕ) → at + length t < length d
@@ -24,12 +34,31 @@ pub laid-more : (d : List ℕ) (at : ℕ) (t : List ℕ) (x : ℕ) → at + leng
 laid-more d at t x h =
     ap (λ (r : List ℕ). set (take at d ++ t ++ r) (at + length t) x) (drop-cons d (at + length t) 0 h)
     ∙ set-at (take at d ++ t) (getD d (at + length t) 0) (drop (suc (at + length t)) d) x (at + length t) (head-length d at t (omega arith))
-    ∙ sym (append-snoc (take at d ++ t) x (drop (suc (at + length t)) d))
-    ∙ ap (λ (r : List ℕ). r ++ drop (suc (at + length t)) d) (append-assoc (take at d) t (x ∷ []))
-    ∙ ap (λ (n : ℕ). take at d ++ (t ++ (x ∷ [])) ++ drop n d) (size ∙ sym (ap (λ (n : ℕ). at + n) (length-append t (x ∷ []))))
-  where
-    size : suc (at + length t) ≡ at + (length t + 1)
-    size = omega arith
+    ∙ laid-snoc d at t x
+
+-- the same, of a line that is known to hold the text, and the place behind the byte
+pub laid-end : (held once : List ℕ) (at n : ℕ) (t : List ℕ) (x : ℕ) → at + length t < length held
+    → n ≡ length t → once ≡ laid held at t
+    → (at + n + 1 ≡ at + length (t ++ (x ∷ []))) × (set once (at + n) x ≡ laid held at (t ++ (x ∷ [])))
+laid-end held once at n t x fits size o =
+    let long = length-append t (x ∷ []) in (
+      omega arith,
+      ap₂ (λ (l : List ℕ) (k : ℕ). set l (at + k) x) o size ∙ laid-more held at t x fits,
+    )
+
+-- a byte put at place j heads what stands from there on
+drop-set : (l : List ℕ) (j x : ℕ) → j < length l → drop j (set l j x) ≡ x ∷ drop (suc j) l
+drop-set l j x h =
+    drop-cons (set l j x) j 0 (simp length-set h)
+    ∙ ap (λ (y : ℕ). y ∷ drop (suc j) (set l j x)) (getD-set-same l j x 0 h)
+    ∙ ap (λ (r : List ℕ). x ∷ r) (drop-set-lt (suc j) l j x (omega arith))
+
+-- the last byte of a text, put before the others
+pub laid-last : (d : List ℕ) (at : ℕ) (t : List ℕ) (x : ℕ) → at + length t < length d
+    → laid (set d (at + length t) x) at t ≡ laid d at (t ++ (x ∷ []))
+laid-last d at t x h =
+    ap₂ (λ (l r : List ℕ). l ++ t ++ r) (take-set-le at d (at + length t) x (omega arith)) (drop-set d (at + length t) x h)
+    ∙ laid-snoc d at t x
 
 -- nothing laid
 pub laid-none : (d : List ℕ) (at : ℕ) → d ≡ laid d at []
@@ -88,75 +117,6 @@ laid-hex d s at i h more =
     ∙ sym (hex-append (take i s) (b ∷ []))
     ∙ ap hexOf (sym (take-suc s i 0 more)))
 
--- ---- decimal digits, from the last on
-
--- a digit taken off the end of a number that has more
-pub decimal-digit : (k n : ℕ) → 10 ≤ n → decimalIn (suc k) n ≡ decimalIn k (n / 10) ++ ((48 + n % 10) ∷ [])
-unfolding decimalIn
-decimal-digit k n h = rw (le-ltb n 10 h)
-
-pub decimal-last : (k n : ℕ) → n < 10 → decimalIn (suc k) n ≡ (48 + n) ∷ []
-unfolding decimalIn
-decimal-last k n h = rw (lt-ltb n 10 h)
-
--- a number of one digit, and the space behind it
-pub laid-digit : (d : List ℕ) (at n : ℕ) → at + 2 ≤ length d → n < 10
-    → (at + 2 ≡ at + length (decimalIn 10 n ++ (32 ∷ [])))
-    × (set (set d at (48 + n)) (at + 1) 32 ≡ laid d at (decimalIn 10 n ++ (32 ∷ [])))
-laid-digit d at n fits small =
-    rw (decimal-last 9 n small) (
-      refl,
-      ap₂ (λ (l : List ℕ) (k : ℕ). set (set l k (48 + n)) (at + 1) 32) (laid-none d at) (sym (add-zero at))
-          ∙ ap (λ (l : List ℕ). set l (at + 1) 32) (laid-more d at [] (48 + n) (omega arith))
-          ∙ laid-more d at ((48 + n) ∷ []) 32 (omega arith),
-    )
-
--- what is left fits the places that are left
-pub places-left : (i n : ℕ) → 10 ≤ n → n < 10 ^ i → (1 < i) × (n / 10 < 10 ^ (i - 1))
-places-left zero n h p = absurd (omega arith)
-places-left (suc zero) n h p = absurd (omega arith)
-places-left (suc (suc i)) n h p = let q : 10 ^ suc (suc i) ≡ 10 ^ suc i * 10 = pow-suc 10 (suc i) in let e : suc (suc i) - 1 ≡ suc i = omega arith in (omega arith, rw e (omega arith))
-
--- a byte put at place j heads what stands from there on
-drop-set : (l : List ℕ) (j x : ℕ) → j < length l → drop j (set l j x) ≡ x ∷ drop (suc j) l
-drop-set l j x h =
-    drop-cons (set l j x) j 0 (simp length-set h)
-    ∙ ap (λ (y : ℕ). y ∷ drop (suc j) (set l j x)) (getD-set-same l j x 0 h)
-    ∙ ap (λ (r : List ℕ). x ∷ r) (drop-set-lt (suc j) l j x (omega arith))
-
--- one turn of the digits' loop, and its end
-pub decimal-step : (l : List ℕ) (i n : ℕ) → 1 ≤ i → i ≤ length l → 10 ≤ n
-    → decimalIn (i - 1) (n / 10) ++ drop (i - 1) (set l (i - 1) (48 + n % 10)) ≡ decimalIn i n ++ drop i l
-decimal-step l zero n one h big = absurd (omega arith)
-decimal-step l (suc j) n one h big =
-    let e : suc j - 1 ≡ j = omega arith in
-    rw e
-    (ap (λ (r : List ℕ). decimalIn j (n / 10) ++ r) (drop-set l j (48 + n % 10) h)
-    ∙ sym (append-assoc (decimalIn j (n / 10)) ((48 + n % 10) ∷ []) (drop (suc j) l))
-    ∙ ap (λ (r : List ℕ). r ++ drop (suc j) l) (sym (decimal-digit j n big)))
-
-pub decimal-end : (l : List ℕ) (i n : ℕ) → 1 ≤ i → i ≤ length l → n < 10
-    → drop (i - 1) (set l (i - 1) (48 + n)) ≡ decimalIn i n ++ drop i l
-decimal-end l zero n one h small = absurd (omega arith)
-decimal-end l (suc j) n one h small =
-    let e : suc j - 1 ≡ j = omega arith in
-    rw e (drop-set l j (48 + n) h ∙ ap (λ (r : List ℕ). r ++ drop (suc j) l) (sym (decimal-last j n small)))
-
--- where the loop begins no digit stands yet
-pub decimal-start : (l : List ℕ) (n : ℕ) → length l ≡ 10 → decimalIn 10 n ++ drop 10 l ≡ decimalIn 10 n
-decimal-start l n size =
-    ap (λ (r : List ℕ). decimalIn 10 n ++ r) (drop-of-length-le l {i = 10} (omega arith)) ∙ append-nil (decimalIn 10 n)
-
-pub length-decimal : (k n : ℕ) → length (decimalIn k n) ≤ k
-unfolding decimalIn
-length-decimal zero n = omega arith
-length-decimal (suc k) n =
-    ⊎-elim (λ t. rw t (omega arith))
-    (λ f.
-    rw f
-    (let ih = length-decimal k (n / 10) in omega (arith, length-append (decimalIn k (n / 10)) ((48 + n % 10) ∷ []))))
-    (decide (ltb n 10))
-
 -- ---- two pieces laid one behind the other
 
 pub laid-both : (held once after : List ℕ) (at next end : ℕ) (t u : List ℕ) → at + length t + length u ≤ length held
@@ -170,14 +130,7 @@ laid-both held once after at next end t u fits n o e a = (
   a ∙ ap₂ (λ (l : List ℕ) (k : ℕ). laid l k u) o n ∙ laid-twice held at t u fits,
 )
 
--- the whole end of a list of ten
-pub take-end : (l : List ℕ) (i : ℕ) → length l ≡ 10 → take (10 - i) (drop i l) ≡ drop i l
-take-end l i size = take-all (10 - i) (drop i l) (rw length-drop (omega arith))
-
--- ---- how long the pieces of a line are
-
-pub number-short : (n : ℕ) → length (decimalIn 10 n ++ (32 ∷ [])) ≤ 11
-number-short n = let few = length-decimal 10 n in omega (arith, length-append (decimalIn 10 n) (32 ∷ []))
+-- ---- how long an answer is
 
 pub answer-short : (bytes : List ℕ) → length bytes ≤ 29 → length (answerText bytes) ≤ 58
 unfolding answerText

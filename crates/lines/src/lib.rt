@@ -4,8 +4,8 @@ ghost use mathlib.Core.List.{_++_, _∷_, []};
 ghost use mathlib.Core.Path.{_≡_};
 ghost use mathlib.Core.Bool.{_&&_};
 ghost use lib.Dec.{leb};
-ghost use Prim.Native.Nat.{_+_, _-_, _*_, _≤_, _<_};
-ghost use lib.ListN.{length, take, drop};
+ghost use Prim.Native.Nat.{_+_, _*_, _≤_, _<_};
+ghost use lib.ListN.{length};
 ghost use Rattle.lines.specs.Lines.{outcomeName, decimalOf, glyph as digit, hexOf, answerText, verdictText, listLine, outcomeText, messageLine, badLine, cutLine, laid, hasRoom, printed, Printed};
 use messages::outcome_number;
 use messages::verdict_number;
@@ -29,22 +29,33 @@ fn append(line: &mut [u8], at: usize, bytes: &[u8]) -> usize
     at + i
 }
 
-// Puts the decimal digits of a number at the end of `digits`, and gives the place of the first.
-fn decimal(number: u32, digits: &mut [u8]) -> usize
-    requires { ⌜ length (now digits) ≡ 10 ⌝ }
-    ensures { λ r. ⌜ r < 10 ⌝ }
-    ensures { λ r. ⌜ take (10 - r) (drop r (now (digits .exit))) ≡ decimalOf number ⌝ }
+// How many decimal digits a number has.
+fn digit_count(number: u32) -> usize
+    ensures { λ r. ⌜ r ≡ length (decimalOf number) ⌝ }
+    ensures { λ r. ⌜ r ≤ 10 ⌝ }
 {
     let mut rest = number;
-    let mut i = 10;
+    let mut count = 1;
     while 10 <= rest {
+        rest /= 10;
+        count += 1;
+    }
+    count
+}
+
+// Lays the decimal digits of a number over the line, from the last down to the first.
+fn lay_digits(line: &mut [u8], at: usize, number: u32, count: usize)
+    requires { ⌜ count ≡ length (decimalOf number) ⌝ }
+    requires { ⌜ at + count ≤ length (now line) ⌝ }
+    ensures { λ _. ⌜ now (line .exit) ≡ laid (now (line .entry)) at (decimalOf number) ⌝ }
+{
+    let mut rest = number;
+    let mut i = at + count;
+    while at < i {
         i -= 1;
-        digits[i] = 48 + (rest % 10) as u8;
+        line[i] = 48 + (rest % 10) as u8;
         rest /= 10;
     }
-    i -= 1;
-    digits[i] = 48 + rest as u8;
-    i
 }
 
 // A hexadecimal digit, in lower case.
@@ -77,10 +88,10 @@ fn append_digits(line: &mut [u8], at: usize, number: u32) -> usize
     ensures { λ r. ⌜ r ≡ at + length (decimalOf number ++ (32 ∷ [])) ⌝ }
     ensures { λ _. ⌜ now (line .exit) ≡ laid (now (line .entry)) at (decimalOf number ++ (32 ∷ [])) ⌝ }
 {
-    let mut digits = [0u8; 10];
-    let first = decimal(number, &mut digits);
-    let next = append(line, at, &digits[first..]);
-    append(line, next, b" ")
+    let count = digit_count(number);
+    lay_digits(line, at, number, count);
+    line[at + count] = b' ';
+    at + count + 1
 }
 
 // The same; a number below ten, as most are, is one digit.

@@ -1,4 +1,3 @@
 -- What the proofs of this crate share.
-pub mod Decisions
-pub mod Answers
+pub mod Tables
 pub mod TwoCalls

@@ -1,83 +1,70 @@
 -- The two calls over plain lists: what their steps leave is what the rules give. Assumes nothing.
-use Prim.Native.Nat.{ℕ, _≤_, _<_}
+use Prim.Native.Nat.{ℕ, _+_, _*_, _≤_, _<_}
 use mathlib.Core.Path.{_≡_, refl, sym, ap, _∙_}
-use mathlib.Core.Bool.{Bool, true, false}
-use mathlib.Core.List.{List, []}
+use mathlib.Core.Bool.{true, false}
+use mathlib.Core.List.{List}
 use mathlib.Core.Logic.{⊎-elim}
 use native.Mathlib.Nat.{le-trans}
-use lib.ListN.{length, getD, set}
+use native.Mathlib.Omega.{arith}
+use lib.ListN.{length, set}
 use lib.Seq.{set-out}
-use lib.Dec.{ltb, lit≤, lit<}
+use lib.Dec.{ltb, lit<}
 use borrow.Author.Tests.{le-leb, ltb-true, ltb-false}
-use Rattle.rules.specs.declared.Kind.the-variants.{GetStatus}
 use Rattle.rules.specs.declared.Outcome.{Outcome}
 use Rattle.rules.specs.declared.Outcome.the-variants.{R1}
 use Rattle.rules.specs.declared.Record.{Record}
 use Rattle.rules.specs.declared.Report.{Report}
-use Rattle.rules.specs.Board.{ours, rows, rowOf}
-use Rattle.rules.specs.Message.{Query, answerAsked, isKind, kindIn, processorOf}
-use Rattle.rules.specs.Outcome.{View, outcomeOf, carriedOut, silent}
-use Rattle.rules.specs.Effect.{recordAfter}
+use Rattle.rules.specs.Table.{firstOf}
+use Rattle.rules.specs.Board.{ours, rows, rowOf, onBoard}
+use Rattle.rules.specs.AccessList.{accepted}
+use Rattle.rules.specs.Message.{Query, kindIn, subjectOf}
+use Rattle.rules.specs.Outcome.{View, admission, outcomeTable, outcomeOf, carriedOut}
+use Rattle.rules.specs.Effect.{effectOf, recordAfter}
 use Rattle.rules.specs.Answer.{ackBytes, bytesFor, answerBytes, answerOf, reportOf, bufferAfter}
-use Rattle.rules.specs.AccessList.{verdictOf}
-use Rattle.rules.specs.Call.{State, viewOf, accepted, afterList, afterMessage}
-use Rattle.rules.specs.Sequence.{list, queryOf, next, answerTo}
-use Rattle.rules.proofs.Tests.{decide}
-use Rattle.access.specs.Memory.{byRow, listedIn, entriesIn, accessAfter}
-use Rattle.access.proofs.Memory.{after-listed, after-entries}
-use Rattle.manager.specs.declared.Decision.{Decision}
-use Rattle.records.specs.Memory.{recordAt, recordsIn, stateIn, viewIn, withRecord}
-use Rattle.manager.specs.Decision.{viewWith, decisionFrom, decisionOf, fitted}
-use Rattle.manager.specs.Calls.{MessageCall}
-use Rattle.manager.proofs.Answers.{fitted-none, bytes-unasked, bytes-silent}
-use Rattle.manager.proofs.Decisions.{call-R1}
-use Rattle.records.proofs.LentMemory.{records-store, records-kept, view-in}
+use Rattle.rules.specs.State.{State, viewOf, stored}
+use Rattle.rules.specs.Call.{list, verdictTo, taken, afterOffer, afterMessage, answerTo, offer, next}
+use Rattle.rules.proofs.Tests.{decide, cond-true, cond-false}
+use Rattle.rules.proofs.Rights.{allowed}
+use Rattle.access.specs.Memory.{byRow, setupIn}
+use Rattle.loading.specs.Loaded.{accessAfter}
+use Rattle.loading.proofs.Offers.{setup-after}
+use Rattle.records.specs.Memory.{recordAt, recordsIn, stateIn, kept, viewIn, withRecord}
+use Rattle.records.proofs.LentMemory.{record-same, store-same, records-store, records-kept, view-in}
+use Rattle.operations.specs.declared.Decision.{Decision}
+use Rattle.operations.specs.Operation.{asked, rowIn, memoryAfter, decisionOn}
+use Rattle.replies.specs.Puts.{fitted, Puts}
+use Rattle.replies.proofs.Answers.{fitted-none, bytes-silent, bytes-short, bytes-after}
+use Rattle.manager.specs.Decision.{query, Decides}
+use Rattle.manager.specs.Calls.{lending, MessageCall}
 
 -- ---- every answer fits
 
--- an answer has at most 29 bytes
-bytes-short : (o : Outcome) (m : List ℕ) (r : Record) (status : ℕ) → length (answerBytes o m r status) ≤ 29
-unfolding answerBytes bytesFor ackBytes
-bytes-short o m r status = go (answerAsked m) (carriedOut o) (silent o) (isKind (kindIn m) GetStatus) refl refl refl refl
-  where
-    go : (a c s g : Bool) → answerAsked m ≡ a → carriedOut o ≡ c → silent o ≡ s → isKind (kindIn m) GetStatus ≡ g → length (answerBytes o m r status) ≤ 29
-    go false c s g ea ec es eg = rw ea (lit≤ tt)
-    go true true s true ea ec es eg = rw (ea, ec, eg) (lit≤ tt)
-    go true true s false ea ec es eg = rw (ea, ec, eg) (lit≤ tt)
-    go true false true g ea ec es eg = rw (ea, ec, es) (lit≤ tt)
-    go true false false g ea ec es eg = rw (ea, ec, es) (lit≤ tt)
-
--- so no call writes more
-pub written-short : (s : State) (q : Query) → answerTo ours s q .report .written ≤ 29
+-- so no call writes more than 29 bytes
+pub written-short : (s : State) (q : Query) → answerTo s q .report .written ≤ 29
 unfolding answerTo reportOf answerOf
-written-short s q = bytes-short _ (q .message) _ _
+written-short s q = bytes-short _ q _
 
--- R1 has no answer
-no-answer : (m : List ℕ) (r : Record) (status : ℕ) → answerBytes R1 m r status ≡ []
-no-answer m r status =
-    ⊎-elim (λ t. bytes-silent R1 m r status t (lit< tt)) (λ f. bytes-unasked R1 m r status f) (decide (answerAsked m))
-
-all-fits : (v : View) (q : Query) → fitted (q .room) (answerOf ours v q) ≡ answerOf ours v q
-unfolding answerOf fitted decisionOf decisionFrom outcomeOf
+-- R1 has no answer, and any other outcome has room for it
+all-fits : (v : View) (q : Query) → fitted (q .room) (answerOf v q) ≡ answerOf v q
+unfolding answerOf fitted outcomeOf outcomeTable admission firstOf
 all-fits v q =
     ⊎-elim
-    (λ small.
-    let refused : outcomeOf ours v q ≡ R1 = ap (λ (d : Decision). d .outcome) (call-R1 v q small) in
-    let none = ap (λ (o : Outcome). answerBytes o (q .message) (v .state) (getD (q .status) 0 0)) refused ∙ no-answer _ _ _ in
+    (λ (small : ltb (q .room) 29 ≡ true).
+    let refused : outcomeOf v q ≡ R1 = cond-true _ _ small in
+    let none = ap (λ (o : Outcome). answerBytes o q (v .state)) refused ∙ bytes-silent R1 q (v .state) (lit< tt) in
     ap (fitted (q .room)) none ∙ fitted-none (q .room) ∙ sym none)
-    (λ room.
-    let short = bytes-short (outcomeOf ours v q) (q .message) (v .state) (getD (q .status) 0 0) in
-    let fits = le-leb _ (q .room) (le-trans short (ltb-false (q .room) 29 room)) in
+    (λ (room : ltb (q .room) 29 ≡ false).
+    let fits = le-leb _ (q .room) (le-trans (bytes-short (outcomeOf v q) q (v .state)) (ltb-false (q .room) 29 room)) in
     rw fits)
     (decide (ltb (q .room) 29))
 
--- ---- the call
+-- ---- the message call
 
 four-rows : (m : List ℕ) (row : ℕ) → 4 ≤ row → length (recordsIn m) ≤ row
 unfolding recordsIn byRow rows ours
 four-rows m row h = h
 
--- the records after the store are those of the next state, also where the processor named is not on the board
+-- the records after a store are those of the next state, also where the processor named is not on the board
 records-next : (m : List ℕ) (row : ℕ) (r : Record) → length m ≡ 20 → recordsIn (withRecord m row r) ≡ set (recordsIn m) row r
 records-next m row r size =
     ⊎-elim (λ t. records-store m row r size (ltb-true row 4 t))
@@ -87,85 +74,100 @@ records-next m row r size =
     past : 4 ≤ row → set (recordsIn m) row r ≡ recordsIn m
     past h = set-out (recordsIn m) row r (four-rows m row h)
 
-module _ (a m : List ℕ) (channel : ℕ) (bytes words held : List ℕ) (la : length a ≡ 17) (lm : length m ≡ 20) where
-  abbrev row : ℕ
-  row = rowOf ours (processorOf bytes)
+-- a processor on the board has its five words in the memory
+row-fits : (m : List ℕ) (p : ℕ) → length m ≡ 20 → onBoard ours p ≡ true → 5 * rowOf ours p + 4 < length m
+unfolding onBoard rows ours
+row-fits m p size on = let row : rowOf ours p < 4 = ltb-true (rowOf ours p) 4 on in omega (arith, size, row)
 
+module _ (a m : List ℕ) (channel : ℕ) (bytes words held : List ℕ) (la : length a ≡ 17) (lm : length m ≡ 20) where
   abbrev q : Query
-  q = queryOf channel bytes words held
+  q = query channel bytes words (length held)
+
+  abbrev v : View
+  v = viewIn a m (rowIn q)
 
   -- what the call sees, by the rules and by the code
-  sees : viewOf ours (stateIn a m) (processorOf bytes) ≡ viewWith a row (recordAt m row)
-  unfolding viewIn
-  sees = view-in a m (processorOf bytes) la lm
+  sees : viewOf (stateIn a m) (subjectOf q) ≡ v
+  sees = view-in a m (subjectOf q) la lm
 
-  -- the steps with the row, the record and the status word that the rules name
-  steps : (d : Decision) (n : ℕ) (m′ held′ : List ℕ)
-      → d ≡ decisionOf (viewWith a row (recordAt m row)) q
-      → m′ ≡ withRecord m row (d .next)
-      → n ≡ length (fitted (length held) (answerBytes (d .outcome) bytes (recordAt m row) (getD words 0 0)))
-      → held′ ≡ bufferAfter (fitted (length held) (answerBytes (d .outcome) bytes (recordAt m row) (getD words 0 0))) held
-      → MessageCall a m channel bytes words held m′ held′ (record { outcome = d .outcome; checks = d .checks; micros = d .micros; written = n })
-  unfolding stateIn answerTo next afterMessage reportOf answerOf decisionOf decisionFrom outcomeOf recordAfter
-  steps d n m′ held′ is stored count kept =
-      let v = viewWith a row (recordAt m row) in
-      let fits : fitted (length held) (answerBytes (d .outcome) bytes (recordAt m row) (getD words 0 0)) ≡ answerOf ours v q =
-      ap (λ (x : Decision). fitted (length held) (answerBytes (x .outcome) bytes (recordAt m row) (getD words 0 0))) is ∙ all-fits v q
+  -- the memory after the call: the records of the next state
+  next-records : recordsIn (memoryAfter (kindIn bytes) (outcomeOf v q) m q) ≡ set (recordsIn m) (rowIn q) (recordAfter v q)
+  unfolding memoryAfter recordAfter viewIn
+  next-records =
+      ⊎-elim
+      (λ ok.
+      ap recordsIn (cond-true _ _ ok) ∙ records-next m (rowIn q) (effectOf (kindIn bytes) q (recordAt m (rowIn q))) lm
+      ∙ ap (set (recordsIn m) (rowIn q)) (sym (cond-true _ _ ok)))
+      (λ no.
+      ap recordsIn (cond-false _ _ no ∙ sym (store-same m (rowIn q))) ∙ records-next m (rowIn q) (recordAt m (rowIn q)) lm
+      ∙ ap (set (recordsIn m) (rowIn q)) (sym (cond-false _ _ no)))
+      (decide (carriedOut (outcomeOf v q)))
+
+  -- the answer's record is read after the call, and is the one before it as far as the answer goes
+  same-bytes : answerBytes (outcomeOf v q) q (recordAt (memoryAfter (kindIn bytes) (outcomeOf v q) m q) (rowIn q)) ≡ answerOf v q
+  unfolding memoryAfter answerOf viewIn
+  same-bytes =
+      let o = outcomeOf v q in
+      ⊎-elim
+      (λ ok.
+      ap (λ (l : List ℕ). answerBytes o q (recordAt l (rowIn q))) (cond-true _ _ ok)
+      ∙ ap (answerBytes o q) (record-same m (rowIn q) (effectOf (kindIn bytes) q (recordAt m (rowIn q))) (row-fits m (subjectOf q) lm (allowed v q ok .onboard)))
+      ∙ bytes-after o q (recordAt m (rowIn q)) ok)
+      (λ no. ap (λ (l : List ℕ). answerBytes o q (recordAt l (rowIn q))) (cond-false _ _ no))
+      (decide (carriedOut o))
+
+  -- the answer needs neither the channel nor the room
+  plain-query : (o : Outcome) (r : Record) → answerBytes o (asked 0 bytes words) r ≡ answerBytes o q r
+  unfolding answerBytes bytesFor ackBytes
+  plain-query o r = refl
+
+  pub message-call : (d : Decision) (n : ℕ) (m′ held′ : List ℕ)
+      → Decides a m q m′ d
+      → Puts (answerBytes (d .outcome) (asked 0 bytes words) (recordAt m′ (rowIn (asked 0 bytes words)))) held held′ n
+      → MessageCall a m (lending channel bytes words held) m′ held′ (record { outcome = d .outcome; checks = d .checks; micros = d .micros; written = n })
+  unfolding stateIn answerTo next afterMessage stored reportOf decisionOn subjectOf setupIn
+  message-call d n m′ held′ decides puts =
+      let is : d .outcome ≡ outcomeOf v q = ap (λ (x : Decision). x .outcome) (decides .decision) in
+      let left : m′ ≡ memoryAfter (kindIn bytes) (outcomeOf v q) m q = decides .records ∙ ap (λ (o : Outcome). memoryAfter (kindIn bytes) o m q) is in
+      let fits : fitted (length held) (answerBytes (d .outcome) (asked 0 bytes words) (recordAt m′ (rowIn (asked 0 bytes words)))) ≡ answerOf v q =
+      ap (fitted (length held))
+      (plain-query (d .outcome) _
+      ∙ ap (λ (o : Outcome). answerBytes o q (recordAt m′ (rowIn q))) is
+      ∙ ap (λ (l : List ℕ). answerBytes (outcomeOf v q) q (recordAt l (rowIn q))) left
+      ∙ same-bytes)
+      ∙ all-fits v q
       in
-      let here : _≡_ {A = Report} (record { outcome = d .outcome; checks = d .checks; micros = d .micros; written = n }) (reportOf ours v q) =
+      let here : _≡_ {A = Report} (record { outcome = d .outcome; checks = d .checks; micros = d .micros; written = n }) (reportOf v q) =
       λ t.
       record {
-        outcome = is t .outcome;
-        checks = is t .checks;
-        micros = is t .micros;
-        written = (count ∙ ap length fits) t;
+        outcome = decides .decision t .outcome;
+        checks = decides .decision t .checks;
+        micros = decides .decision t .micros;
+        written = (puts .count ∙ ap length fits) t;
       }
       in
       record {
-        report = here ∙ ap (λ (x : View). reportOf ours x q) (sym sees);
-        records =
-            ap recordsIn stored
-            ∙ records-next m row (d .next) lm
-            ∙ ap (λ (x : Decision). set (recordsIn m) row (x .next)) is
-            ∙ ap (λ (x : View). set (recordsIn m) row (recordAfter ours x q)) (sym sees);
+        report = here ∙ ap (λ (x : View). reportOf x q) (sym sees);
+        records = ap recordsIn left ∙ next-records ∙ ap (λ (x : View). set (recordsIn m) (rowIn q) (recordAfter x q)) (sym sees);
         buffer =
-            kept
+            puts .buffer
             ∙ ap (λ (l : List ℕ). bufferAfter l held) fits
-            ∙ ap (λ (x : View). bufferAfter (answerOf ours x q) held) (sym sees);
+            ∙ ap (λ (x : View). bufferAfter (answerOf x q) held) (sym sees);
       }
-
-  -- and with those that the code found, given that they are the same
-  pub message-call : (row′ : ℕ) (state : Record) (status : ℕ) (d : Decision) (n : ℕ) (m′ held′ : List ℕ)
-      → row′ ≡ row
-      → state ≡ recordAt m row′
-      → status ≡ getD words 0 0
-      → d ≡ decisionOf (viewWith a row′ state) q
-      → m′ ≡ withRecord m row′ (d .next)
-      → n ≡ length (fitted (length held) (answerBytes (d .outcome) bytes state status))
-      → held′ ≡ bufferAfter (fitted (length held) (answerBytes (d .outcome) bytes state status)) held
-      → MessageCall a m channel bytes words held m′ held′ (record { outcome = d .outcome; checks = d .checks; micros = d .micros; written = n })
-  message-call row′ state status d n m′ held′ here loaded first is stored count kept =
-      steps d n m′ held′
-      (rw (loaded, here) at is)
-      (rw here at stored)
-      (rw (loaded, here, first) at count)
-      (rw (loaded, here, first) at kept)
 
 -- ---- the list call
 
-list-keeps-records : (a bytes : List ℕ) (records : List Record)
-    → afterList ours (record { listed = listedIn a; entries = entriesIn a; records = records }) bytes .records ≡ records
-unfolding afterList
-list-keeps-records a bytes records =
-    ⊎-elim (λ t. rw t) (λ f. rw f) (decide (accepted (verdictOf ours (listedIn a) bytes)))
+-- an offer leaves the records
+offer-keeps-records : (s : State) (bytes : List ℕ) → afterOffer s (list bytes) .records ≡ s .records
+unfolding afterOffer taken
+offer-keeps-records s bytes = ⊎-elim (λ t. rw t) (λ f. rw f) (decide (accepted (verdictTo s (list bytes))))
 
--- an access memory after the list call, read with any records, is the rules' next state
-pub list-state : (a bytes records : List ℕ) → stateIn (accessAfter a bytes) records ≡ next ours (stateIn a records) (list bytes)
-unfolding stateIn next
+-- an access memory after the list call, read with any records, holds what is kept of the rules' next state
+pub list-state : (a bytes records : List ℕ) → stateIn (accessAfter a bytes) records ≡ kept (next (stateIn a records) (offer (list bytes)))
+unfolding stateIn next kept
 list-state a bytes records =
     λ t.
     record {
-      listed = after-listed a bytes (recordsIn records) t;
-      entries = after-entries a bytes (recordsIn records) t;
-      records = sym (list-keeps-records a bytes (recordsIn records)) t;
+      setup = setup-after a bytes (recordsIn records) t;
+      records = sym (offer-keeps-records (record { setup = setupIn a; records = recordsIn records }) bytes) t;
     }

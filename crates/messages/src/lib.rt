@@ -1,9 +1,8 @@
-// The message types with their sizes; whether an answer is asked for, whether a vector is kept, and
-// the operands of a wait; the numbers of outcomes and verdicts. The rules are document 01's tables,
-// in rules/specs. Each function gives what the definition that its contract names gives, for any
-// input.
+// The message types; whether an answer is asked for, whether a vector is kept, and the operands of a
+// wait; the numbers of outcomes and verdicts. The rules are document 01's tables, in rules/specs.
+// Each function gives what the definition that its contract names gives, for any input.
 ghost use mathlib.Core.Path.{_≡_};
-ghost use Rattle.rules.specs.Message.{kindOf, typeNumber, sizeOf, answerAsked, waitIn};
+ghost use Rattle.rules.specs.Message.{kindOf, answerAsked, waitIn};
 ghost use Rattle.rules.specs.AccessList.{verdictNumber};
 ghost use Rattle.rules.specs.Outcome.{outcomeNumber};
 ghost use Rattle.rules.specs.Flags.{keepsVector};
@@ -28,40 +27,6 @@ pub fn kind_of(number: u16) -> Kind
         0xC400 => Kind::GetStatus,
         0xC401 => Kind::WaitStatus,
         _ => Kind::Other,
-    }
-}
-
-// The number of a kind's type; 0, which is no type, for all others.
-pub fn type_number(kind: Kind) -> u16
-    ensures { λ r. ⌜ r ≡ typeNumber kind ⌝ }
-{
-    match kind {
-        Kind::Request => 0xC000,
-        Kind::Release => 0xC001,
-        Kind::Handover => 0xC005,
-        Kind::SetConfig => 0xC100,
-        Kind::SetControl => 0xC101,
-        Kind::AuthBoot => 0xC120,
-        Kind::GetStatus => 0xC400,
-        Kind::WaitStatus => 0xC401,
-        Kind::Other => 0,
-    }
-}
-
-// The size of a type's structure, with the header.
-pub fn size_of(kind: Kind) -> usize
-    ensures { λ r. ⌜ r ≡ sizeOf kind ⌝ }
-{
-    match kind {
-        Kind::Request => 9,
-        Kind::Release => 9,
-        Kind::Handover => 10,
-        Kind::SetConfig => 25,
-        Kind::SetControl => 17,
-        Kind::AuthBoot => 16,
-        Kind::GetStatus => 9,
-        Kind::WaitStatus => 29,
-        Kind::Other => 0,
     }
 }
 

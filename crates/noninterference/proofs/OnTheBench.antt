@@ -5,23 +5,25 @@ use mathlib.Core.Path.{_≡_, refl}
 use mathlib.Core.List.{List, [], _∷_}
 use Rattle.rules.specs.Table.{firstOf, anyOf, allOf}
 use Rattle.rules.specs.Board.{ours, boardHost, activeHost, placeIn, rows, rowOf, onBoard}
-use Rattle.rules.specs.AccessList.{noEntry, partsFrom, namedIn, entryTable, entriesTable, listTable, verdictOf, entryIn, withPart, withParts, noEntries, entriesOf, hasEntry, isMaster, isSecondary, permitted}
-use Rattle.rules.specs.Message.{kindOf, namesProcessor, isAbout}
-use Rattle.rules.specs.Call.{fresh, entryOf, accepted, afterList}
-use Rattle.rules.specs.Sequence.{Call, list}
+use Rattle.rules.specs.AccessList.{noEntry, partsFrom, namedIn, entryTable, entriesTable, listTable, verdictOf, accepted, entryIn, withPart, withParts, noEntries, entriesOf, hasEntry, isMaster, isSecondary, permitted}
+use Rattle.rules.specs.Message.{kindOf, namesProcessor, subjectOf, isAbout}
+use Rattle.rules.specs.State.{listed, State, fresh, entryOf}
+use Rattle.rules.specs.Call.{list, verdictTo, taken, afterOffer, Call, offer}
+use Rattle.rules.specs.Sequence.{permittedFor}
 use Rattle.rules.specs.Bench.{benchList, request, handover, setConfig}
-use Rattle.noninterference.specs.Statement.{start, Loaded, insider, aboutChosen, picked, picks, answers, Noninterference}
-use Rattle.noninterference.proofs.Theorem.{noninterference}
+use Rattle.noninterference.specs.Statement.{insider, aboutChosen, picked, picks, answers, Noninterference}
+use Rattle.noninterference.proofs.Theorem.{freshly-loaded}
 
 abbrev bothR5 : List ℕ
 bothR5 = 1 ∷ 2 ∷ []
 
-bench-loaded : Loaded ours benchList bothR5
-unfolding firstOf anyOf allOf ours boardHost activeHost placeIn rows rowOf onBoard noEntry partsFrom namedIn entryTable entriesTable listTable verdictOf entryIn withPart withParts noEntries entriesOf hasEntry fresh entryOf accepted afterList start
-bench-loaded = record { taken = refl; named = refl }
+-- the state that the bench list leaves
+abbrev start : State
+start = afterOffer (fresh ours) (list benchList)
 
-pub on-the-bench : Noninterference ours benchList bothR5
-on-the-bench = noninterference ours benchList bothR5 bench-loaded
+pub on-the-bench : Noninterference start bothR5
+unfolding firstOf anyOf allOf ours boardHost activeHost placeIn rows rowOf onBoard partsFrom namedIn entryTable entriesTable listTable verdictOf accepted
+on-the-bench = freshly-loaded ours benchList bothR5 refl refl
 
 -- host 3 takes processor 1, sets its vector and hands it over to 5
 abbrev quiet : List Call
@@ -30,14 +32,14 @@ quiet = request 3 ∷ setConfig 3 0x41C00080 0 ∷ handover 3 5 ∷ []
 -- the same, between calls of host 12, which is an outsider, and a list that is offered again
 abbrev disturbed : List Call
 disturbed =
-    request 12 ∷ request 3 ∷ setConfig 12 0x41C00100 0 ∷ list benchList ∷ setConfig 3 0x41C00080 0 ∷ handover 12 12 ∷ handover 3 5 ∷ request 12 ∷ []
+    request 12 ∷ request 3 ∷ setConfig 12 0x41C00100 0 ∷ offer (list benchList) ∷ setConfig 3 0x41C00080 0 ∷ handover 12 12 ∷ handover 3 5 ∷ request 12 ∷ []
 
-same-picks : picks ours benchList bothR5 quiet ≡ picks ours benchList bothR5 disturbed
-unfolding firstOf anyOf ours boardHost activeHost placeIn rows rowOf onBoard noEntry partsFrom namedIn entryTable entriesTable listTable verdictOf entryIn withPart withParts noEntries entriesOf hasEntry isMaster isSecondary permitted kindOf namesProcessor isAbout fresh entryOf accepted afterList start insider aboutChosen picked picks
+same-picks : picks (start .setup) bothR5 quiet ≡ picks (start .setup) bothR5 disturbed
+unfolding firstOf anyOf ours boardHost activeHost placeIn rows rowOf onBoard noEntry partsFrom namedIn entryTable entriesTable listTable verdictOf accepted entryIn withPart withParts noEntries entriesOf hasEntry isMaster isSecondary permitted kindOf namesProcessor subjectOf isAbout listed fresh entryOf verdictTo taken afterOffer permittedFor insider aboutChosen picked picks
 same-picks = refl
 
 -- so host 12 changes none of the answers
 pub undisturbed :
-    answers ours benchList bothR5 (start ours benchList) quiet
-    ≡ answers ours benchList bothR5 (start ours benchList) disturbed
+    answers (start .setup) bothR5 start quiet
+    ≡ answers (start .setup) bothR5 start disturbed
 undisturbed = on-the-bench .same-answers quiet disturbed same-picks

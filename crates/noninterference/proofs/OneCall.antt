@@ -1,205 +1,139 @@
 -- One call, from a state that a sequence from the start can leave: what it keeps, and what it gives in two states that agree on the
 -- chosen processors. Assumes nothing.
-use Prim.Native.Nat.{ℕ, zero, suc}
-use mathlib.Core.Path.{_≡_, refl, sym, subst, subst⁻¹, _∙_, ap}
-use mathlib.Core.Bool.{Bool, true, false}
+use Prim.Native.Nat.{ℕ}
+use mathlib.Core.Path.{_≡_, sym, subst, subst⁻¹, _∙_, ap}
+use mathlib.Core.Bool.{true, false}
 use mathlib.Core.List.{List}
 use mathlib.Core.Logic.{⊎-elim}
-use lib.ListN.{length, getD, set, replicate, length-set, length-replicate}
-use lib.Seq.{set-getD, getD-set-same, getD-set-other, set-out}
-use lib.Dec.{eqb, ltb}
-use borrow.Author.Tests.{eqb-true, eqb-false, ltb-true, ltb-false}
-use Rattle.rules.specs.declared.Record.{Record}
-use Rattle.rules.specs.Table.{firstOf, anyOf}
-use Rattle.rules.specs.Board.{Board, rows, rowOf}
-use Rattle.rules.specs.AccessList.{Entry, noEntry, permitted, entriesOf, verdictOf, listTable}
-use Rattle.rules.specs.Message.{Query, isAbout, processorOf}
-use Rattle.rules.specs.Outcome.{View, isFree, outcomeOf, carriedOut}
+use lib.ListN.{length, getD, set}
+use lib.Dec.{eqb}
+use borrow.Author.Tests.{eqb-true}
+use Rattle.rules.specs.Table.{anyOf}
+use Rattle.rules.specs.Board.{rows, rowOf}
+use Rattle.rules.specs.Message.{Query, subjectOf, isAbout}
+use Rattle.rules.specs.Outcome.{View, outcomeOf, carriedOut}
 use Rattle.rules.specs.Effect.{recordAfter}
 use Rattle.rules.specs.Answer.{reportOf, answerOf}
-use Rattle.rules.specs.Call.{State, freeRecord, fresh, entryOf, recordOf, viewOf, accepted, afterList, afterMessage}
-use Rattle.rules.specs.Sequence.{message, answerTo}
-use Rattle.rules.proofs.Tests.{decide, clash, and-right, and-both, or-left, anyOf-member, anyOf-find, cond-true, cond-false, set-alike}
+use Rattle.rules.specs.State.{listed, Setup, State, freeRecord, entryOf, recordOf, viewOf, stored}
+use Rattle.rules.specs.Call.{Offer, afterOffer, afterMessage, answerTo, Call, offer, message, next}
+use Rattle.rules.specs.Sequence.{permittedFor, freeOrPermitted, Sound}
+use Rattle.rules.proofs.Tests.{decide, clash, and-right, and-both, anyOf-member, anyOf-find, set-alike}
 use Rattle.rules.proofs.Rows.{row-one}
-use Rattle.rules.proofs.Rights.{allowed, sender-permitted, after-sound, refusal-keeps, carried-about, about-names, soundly}
-use Rattle.noninterference.specs.Statement.{start, Loaded, insider, aboutChosen, picked, freeOrPermitted}
+use Rattle.rules.proofs.Rights.{allowed, sender-permitted, carried-about, about-names}
+use Rattle.rules.proofs.Sound.{offer-kept, message-refused, stored-other, sound-next}
+use Rattle.noninterference.specs.Statement.{insider, aboutChosen, picked}
 
--- ---- stores by row
-
--- a call that is not carried out leaves all records
-pub kept-records : (b : Board) (s : State) (q : Query)
-    → carriedOut (outcomeOf b (viewOf b s (processorOf (q .message))) q) ≡ false
-    → afterMessage b s q .records ≡ s .records
-unfolding afterMessage viewOf recordOf
-kept-records b s q refused =
-    ap (set (s .records) (rowOf b (processorOf (q .message)))) (refusal-keeps b (viewOf b s (processorOf (q .message))) q refused)
-    ∙ set-getD (s .records) (rowOf b (processorOf (q .message))) freeRecord
-
--- a fresh manager's records are free at every row
-free-at : (n i : ℕ) → getD (replicate n freeRecord) i freeRecord ≡ freeRecord
-free-at zero i = refl
-free-at (suc n) zero = refl
-free-at (suc n) (suc i) = free-at n i
-
-again : (b : Board) (offered : List ℕ) → accepted (verdictOf b true offered) ≡ false
-unfolding verdictOf listTable firstOf accepted
-again b offered = refl
-
--- once a list was accepted, a list call changes nothing
-pub list-kept : (b : Board) (s : State) (offered : List ℕ) → s .listed ≡ true → afterList b s offered ≡ s
-unfolding afterList
-list-kept b s offered e = cond-false _ _ (subst (λ (x : Bool). accepted (verdictOf b x offered) ≡ false) (sym e) (again b offered))
-
--- the row of p is not the one that a message about another row stores to
-other-row : (b : Board) (s : State) (q : Query) (p : ℕ)
-    → eqb (rowOf b p) (rowOf b (processorOf (q .message))) ≡ false
-    → recordOf b (afterMessage b s q) p ≡ recordOf b s p
-unfolding recordOf afterMessage
-other-row b s q p apart =
-    getD-set-other (s .records) (rowOf b (processorOf (q .message))) (rowOf b p) _ freeRecord
-    (eqb-false (rowOf b p) (rowOf b (processorOf (q .message))) apart)
-
--- a message about a chosen processor names that one
-names-chosen : (chosen : List ℕ) (q : Query) → aboutChosen chosen (q .message) ≡ true → anyOf (eqb (processorOf (q .message))) chosen ≡ true
+-- a message about a chosen processor works on the record of that one
+subject-chosen : (chosen : List ℕ) (q : Query) → aboutChosen chosen q ≡ true → anyOf (eqb (subjectOf q)) chosen ≡ true
 unfolding aboutChosen
-names-chosen chosen q about =
-    let found = anyOf-find (isAbout (q .message)) chosen about in
-    subst⁻¹ (λ (p : ℕ). anyOf (eqb p) chosen ≡ true) (about-names (q .message) (found .0) (found .2)) (found .1)
+subject-chosen chosen q about =
+    let found = anyOf-find (isAbout q) chosen about in
+    subst⁻¹ (λ (p : ℕ). anyOf (eqb p) chosen ≡ true) (about-names q (found .0) (found .2)) (found .1)
 
-module _ (b : Board) (bytes chosen : List ℕ) (loaded : Loaded b bytes chosen) where
+module _ (setup : Setup) (chosen : List ℕ) (something : listed (setup .source) ≡ true) where
   -- the states that sequences from the start can leave
   pub record Reached (s : State) : Type 0 where
-    pub listed : s .listed ≡ true
-    pub entries : s .entries ≡ start b bytes .entries
-    pub size : length (s .records) ≡ rows b
-    pub sound : (p : ℕ) → anyOf (eqb p) chosen ≡ true → freeOrPermitted b bytes s p ≡ true
-
-  -- the start, in full
-  start-is : start b bytes ≡ record { listed = true; entries = entriesOf b bytes; records = replicate (rows b) freeRecord }
-  unfolding start afterList fresh
-  start-is = cond-true _ _ (loaded .taken)
-
-  pub start-reached : Reached (start b bytes)
-  unfolding freeOrPermitted recordOf freeRecord
-  start-reached =
-      record {
-        listed = ap (λ (s : State). s .listed) start-is;
-        entries = refl;
-        size = ap (λ (s : State). length (s .records)) start-is ∙ length-replicate (rows b) freeRecord;
-        sound =
-            λ p m.
-            or-left _
-            (ap (λ (s : State). isFree (getD (s .records) (rowOf b p) freeRecord)) start-is
-            ∙ ap isFree (free-at (rows b) (rowOf b p)));
-      }
+    pub sound : Sound s
+    pub same : s .setup ≡ setup
 
   module _ (s : State) (r : Reached s) where
-    entry-same : (p : ℕ) → entryOf b s p ≡ entryOf b (start b bytes) p
-    unfolding entryOf
-    entry-same p = ap (λ (es : List Entry). getD es (rowOf b p) noEntry) (r .entries)
+    is-listed : listed (s .setup .source) ≡ true
+    is-listed = ap (λ (u : Setup). listed (u .source)) (r .same) ∙ something
 
-    sound-here : (p : ℕ) → anyOf (eqb p) chosen ≡ true → soundly b (entryOf b s p) (recordOf b s p) ≡ true
-    unfolding freeOrPermitted
-    sound-here p m = subst⁻¹ (λ (e : Entry). soundly b e (recordOf b s p) ≡ true) (entry-same p) (r .sound p m)
+    pub offer-stays : (o : Offer) → afterOffer s o ≡ s
+    offer-stays o = offer-kept s o is-listed
 
-    -- a call leaves a row that was soundly held soundly held
-    sound-after : (q : Query) (p : ℕ) → soundly b (entryOf b s p) (recordOf b s p) ≡ true
-        → soundly b (entryOf b s p) (recordOf b (afterMessage b s q) p) ≡ true
-    unfolding entryOf recordOf afterMessage viewOf
-    sound-after q p h =
-        ⊎-elim
-        (λ same.
-        let row : rowOf b p ≡ rowOf b (processorOf (q .message)) = eqb-true _ _ same in
-        ⊎-elim
-        (λ inside.
-        let there : soundly b (entryOf b s (processorOf (q .message))) (recordOf b s (processorOf (q .message))) ≡ true =
-        subst (λ (i : ℕ). soundly b (getD (s .entries) i noEntry) (getD (s .records) i freeRecord) ≡ true) row h
-        in
-        rw row
-        (rw (getD-set-same (s .records) (rowOf b (processorOf (q .message))) (recordAfter b (viewOf b s (processorOf (q .message))) q) freeRecord
-        (ltb-true _ _ inside))
-        (after-sound b (viewOf b s (processorOf (q .message))) q there)))
-        (λ outside.
-        rw (set-out (s .records) (rowOf b (processorOf (q .message))) (recordAfter b (viewOf b s (processorOf (q .message))) q) (ltb-false _ _ outside)) h)
-        (decide (ltb (rowOf b (processorOf (q .message))) (length (s .records)))))
-        (λ apart. subst⁻¹ (λ (x : Record). soundly b (entryOf b s p) x ≡ true) (other-row b s q p apart) h)
-        (decide (eqb (rowOf b p) (rowOf b (processorOf (q .message)))))
-
-    pub message-reached : (q : Query) → Reached (afterMessage b s q)
-    unfolding afterMessage freeOrPermitted
-    message-reached q =
-        record {
-          listed = r .listed;
-          entries = r .entries;
-          size = length-set (s .records) (rowOf b (processorOf (q .message))) _ ∙ r .size;
-          sound =
-              λ p m.
-              subst (λ (e : Entry). soundly b e (recordOf b (afterMessage b s q) p) ≡ true) (entry-same p) (sound-after q p (sound-here p m));
-        }
+    pub call-reached : (c : Call) → Reached (next s c)
+    unfolding next afterMessage stored
+    call-reached (offer o) = subst⁻¹ Reached (offer-stays o) r
+    call-reached (message lent) = record { sound = sound-next s (r .sound) (message lent); same = r .same }
 
     -- who has a message about a chosen processor carried out is an insider
-    carried-insider : (q : Query) → anyOf (eqb (processorOf (q .message))) chosen ≡ true
-        → carriedOut (outcomeOf b (viewOf b s (processorOf (q .message))) q) ≡ true → insider b bytes chosen (q .channel) ≡ true
-    unfolding insider viewOf
+    carried-insider : (q : Query) → anyOf (eqb (subjectOf q)) chosen ≡ true
+        → carriedOut (outcomeOf (viewOf s (subjectOf q)) q) ≡ true → insider setup chosen (q .channel) ≡ true
+    unfolding insider viewOf permittedFor freeOrPermitted
     carried-insider q m ok =
-        anyOf-member _ chosen (processorOf (q .message)) m
-        (subst (λ (e : Entry). permitted b e (q .channel) ≡ true) (entry-same (processorOf (q .message)))
-        (sender-permitted b (viewOf b s (processorOf (q .message))) q (sound-here (processorOf (q .message)) m) ok))
+        anyOf-member _ chosen (subjectOf q) m
+        (subst (λ (u : Setup). permittedFor u (subjectOf q) (q .channel) ≡ true) (r .same)
+        (sender-permitted (viewOf s (subjectOf q)) q (r .sound .holder-permitted (subjectOf q)) ok))
 
     -- a call that is not picked leaves the chosen records
-    pub unpicked-keeps : (q : Query) → picked b bytes chosen q ≡ false → (p : ℕ) → anyOf (eqb p) chosen ≡ true
-        → recordOf b (afterMessage b s q) p ≡ recordOf b s p
-    unfolding recordOf picked aboutChosen
+    pub unpicked-keeps : (q : Query) → picked setup chosen q ≡ false → (p : ℕ) → anyOf (eqb p) chosen ≡ true
+        → recordOf (afterMessage s q) p ≡ recordOf s p
+    unfolding picked aboutChosen afterMessage viewOf
     unpicked-keeps q out p m =
+        let b = s .setup .board in
         ⊎-elim
         (λ ok.
         ⊎-elim
         (λ same.
-        let is : p ≡ processorOf (q .message) =
-        row-one b p (processorOf (q .message)) (eqb-true _ _ same) (allowed b _ q ok .onboard)
-        in
-        let here : anyOf (eqb (processorOf (q .message))) chosen ≡ true = rw is at m in
+        let is : p ≡ subjectOf q = row-one b p (subjectOf q) (eqb-true _ _ same) (allowed (viewOf s (subjectOf q)) q ok .onboard) in
+        let here : anyOf (eqb (subjectOf q)) chosen ≡ true = subst (λ (x : ℕ). anyOf (eqb x) chosen ≡ true) is m in
         clash
         (and-both (carried-insider q here ok)
-        (anyOf-member (isAbout (q .message)) chosen (processorOf (q .message)) here (carried-about b _ q ok)))
+        (anyOf-member (isAbout q) chosen (subjectOf q) here (carried-about (viewOf s (subjectOf q)) q ok)))
         out)
-        (λ apart. other-row b s q p apart)
-        (decide (eqb (rowOf b p) (rowOf b (processorOf (q .message))))))
-        (λ refused. ap (λ (rs : List Record). getD rs (rowOf b p) freeRecord) (kept-records b s q refused))
-        (decide (carriedOut (outcomeOf b (viewOf b s (processorOf (q .message))) q)))
+        (λ apart. stored-other s (subjectOf q) (recordAfter (viewOf s (subjectOf q)) q) p apart)
+        (decide (eqb (rowOf b p) (rowOf b (subjectOf q)))))
+        (λ refused. ap (λ (t : State). recordOf t p) (message-refused s q refused))
+        (decide (carriedOut (outcomeOf (viewOf s (subjectOf q)) q)))
 
     -- no outsider's message about a chosen processor is carried out
-    pub outsider-refused-here : (q : Query) → aboutChosen chosen (q .message) ≡ true → insider b bytes chosen (q .channel) ≡ false
-        → carriedOut (answerTo b s q .report .outcome) ≡ false
+    pub outsider-refused-here : (q : Query) → aboutChosen chosen q ≡ true → insider setup chosen (q .channel) ≡ false
+        → carriedOut (answerTo s q .report .outcome) ≡ false
     unfolding answerTo reportOf
     outsider-refused-here q about out =
-        ⊎-elim (λ ok. clash (carried-insider q (names-chosen chosen q about) ok) out) (λ refused. refused)
-        (decide (carriedOut (outcomeOf b (viewOf b s (processorOf (q .message))) q)))
+        ⊎-elim (λ ok. clash (carried-insider q (subject-chosen chosen q about) ok) out) (λ refused. refused)
+        (decide (carriedOut (outcomeOf (viewOf s (subjectOf q)) q)))
 
   -- ---- two states that agree on the chosen records
 
   abbrev pub Agree : State → State → Type 0
-  Agree s t = (p : ℕ) → anyOf (eqb p) chosen ≡ true → recordOf b s p ≡ recordOf b t p
+  Agree s t = (p : ℕ) → anyOf (eqb p) chosen ≡ true → recordOf s p ≡ recordOf t p
 
-  module _ (s t : State) (rs : Reached s) (rt : Reached t) (agree : Agree s t) (q : Query) (pick : picked b bytes chosen q ≡ true) where
-    view-same : viewOf b s (processorOf (q .message)) ≡ viewOf b t (processorOf (q .message))
+  -- the record of p after a message, by the rows of the start's board
+  after-at : (s : State) → Reached s → (q : Query) (p : ℕ)
+      → recordOf (afterMessage s q) p
+      ≡ getD (set (s .records) (rowOf (setup .board) (subjectOf q)) (recordAfter (viewOf s (subjectOf q)) q)) (rowOf (setup .board) p) freeRecord
+  unfolding recordOf afterMessage stored
+  after-at s r q p =
+      ap
+      (λ (u : Setup).
+      getD (set (s .records) (rowOf (u .board) (subjectOf q)) (recordAfter (viewOf s (subjectOf q)) q)) (rowOf (u .board) p) freeRecord)
+      (r .same)
+
+  record-at : (s : State) → Reached s → (p : ℕ) → recordOf s p ≡ getD (s .records) (rowOf (setup .board) p) freeRecord
+  unfolding recordOf
+  record-at s r p = ap (λ (u : Setup). getD (s .records) (rowOf (u .board) p) freeRecord) (r .same)
+
+  size-is : (s : State) → Reached s → length (s .records) ≡ rows (setup .board)
+  size-is s r = r .sound .rows-there ∙ ap (λ (u : Setup). rows (u .board)) (r .same)
+
+  module _ (s t : State) (rs : Reached s) (rt : Reached t) (agree : Agree s t) (q : Query) (pick : picked setup chosen q ≡ true) where
+    view-same : viewOf s (subjectOf q) ≡ viewOf t (subjectOf q)
     unfolding viewOf picked
     view-same =
-        let p = processorOf (q .message) in
-        let m = names-chosen chosen q (and-right (insider b bytes chosen (q .channel)) _ pick) in
+        let p = subjectOf q in
+        let m = subject-chosen chosen q (and-right (insider setup chosen (q .channel)) _ pick) in
+        let same : s .setup ≡ t .setup = rs .same ∙ sym (rt .same) in
         λ i.
         record {
-          listed = (rs .listed ∙ sym (rt .listed)) i;
-          entry = (entry-same s rs p ∙ sym (entry-same t rt p)) i;
+          board = same i .board;
+          listed = listed (same i .source);
+          entry = entryOf (same i) p;
           state = agree p m i;
         }
 
-    pub answer-same : answerTo b s q ≡ answerTo b t q
+    pub answer-same : answerTo s q ≡ answerTo t q
     unfolding answerTo
-    answer-same = ap (λ (v : View). record { report = reportOf b v q; bytes = answerOf b v q }) view-same
+    answer-same = ap (λ (v : View). record { report = reportOf v q; bytes = answerOf v q }) view-same
 
-    pub agree-after : Agree (afterMessage b s q) (afterMessage b t q)
-    unfolding recordOf afterMessage
+    pub agree-after : Agree (afterMessage s q) (afterMessage t q)
     agree-after p m =
-        rw view-same
-        (set-alike (s .records) (t .records) (rowOf b (processorOf (q .message))) (rowOf b p) _ freeRecord (rs .size ∙ sym (rt .size)) (agree p m))
+        let x = rowOf (setup .board) (subjectOf q) in
+        after-at s rs q p
+        ∙ ap (λ (v : View). getD (set (s .records) x (recordAfter v q)) (rowOf (setup .board) p) freeRecord) view-same
+        ∙ set-alike (s .records) (t .records) x (rowOf (setup .board) p) (recordAfter (viewOf t (subjectOf q)) q) freeRecord
+        (size-is s rs ∙ sym (size-is t rt))
+        (sym (record-at s rs p) ∙ agree p m ∙ record-at t rt p)
+        ∙ sym (after-at t rt q p)

@@ -1,85 +1,111 @@
--- Demand 3: noninterference, for every board, every accepted list and any processors that have entries in it; and the start depends on
--- the list alone. Assumes nothing.
+-- Demand 3: noninterference, for every board, from every listed state that calls left, for any processors that the accepted list names; the
+-- state that an accepted list leaves is such a start, and it depends on the list alone. Assumes nothing.
 use Prim.Native.Nat.{ℕ}
-use mathlib.Core.Path.{_≡_, refl, sym, _∙_, ap}
+use mathlib.Core.Path.{_≡_, refl, sym, subst, subst⁻¹, _∙_, ap}
 use mathlib.Core.Bool.{true, false}
 use mathlib.Core.List.{List, [], _∷_}
 use mathlib.Core.Logic.{⊎-elim}
-use Rattle.rules.specs.Board.{Board}
-use Rattle.rules.specs.AccessList.{verdictOf}
-use Rattle.rules.specs.Message.{Query, processorOf}
-use Rattle.rules.specs.Outcome.{outcomeOf, carriedOut}
-use Rattle.rules.specs.Call.{State, fresh, recordOf, viewOf, accepted, afterList, afterMessage}
-use Rattle.rules.specs.Sequence.{Call, list, message, queryOf, next, run}
-use Rattle.rules.proofs.Tests.{decide, clash, cond-false}
-use Rattle.rules.proofs.Rights.{allowed}
-use Rattle.noninterference.specs.Statement.{start, Loaded, Noninterference, NoTrace}
-use Rattle.noninterference.proofs.OneCall.{start-reached, outsider-refused-here, list-kept, kept-records}
+use lib.ListN.{getD}
+use lib.Dec.{eqb}
+use Rattle.rules.specs.Table.{anyOf, allOf}
+use Rattle.rules.specs.Board.{Board, rowOf}
+use Rattle.rules.specs.AccessList.{Entry, noEntry, parts, namedIn, hasEntry, verdictOf, accepted}
+use Rattle.rules.specs.Message.{Query}
+use Rattle.rules.specs.State.{listed, listIn, Setup, State, fresh, entryOf, recordOf, stored}
+use Rattle.rules.specs.Call.{Offer, list, verdictTo, taken, afterOffer, afterMessage, queryOf, Call, offer, message, next}
+use Rattle.rules.specs.Sequence.{run, freeOrPermitted, Sound}
+use Rattle.rules.proofs.Tests.{decide, cond-true, cond-false, allOf-member}
+use Rattle.rules.proofs.Entries.{named-there}
+use Rattle.rules.proofs.Sound.{sound-fresh, sound-run}
+use Rattle.noninterference.specs.Statement.{Ready, Noninterference, FromEveryStart, FreshlyLoaded, NoTrace}
+use Rattle.noninterference.proofs.OneCall.{Reached, outsider-refused-here}
 use Rattle.noninterference.proofs.Sequences.{Erased, erase, run-reached, answerPicks, runPicks}
 
--- the picks of a sequence from the start, run alone
-alone : (b : Board) (bytes chosen : List ℕ) (loaded : Loaded b bytes chosen) (calls : List Call)
-    → Erased b bytes chosen loaded (start b bytes) (start b bytes) calls
-alone b bytes chosen loaded calls =
-    let r = start-reached b bytes chosen loaded in
-    erase b bytes chosen loaded calls (start b bytes) (start b bytes) r r (λ p m. refl)
+-- ---- from a sound start
 
-pub noninterference : (b : Board) (bytes chosen : List ℕ) → Loaded b bytes chosen → Noninterference b bytes chosen
-noninterference b bytes chosen loaded =
-    let s = start b bytes in
-    let reached = run-reached b bytes chosen loaded in
-    let r = start-reached b bytes chosen loaded in
-    record {
-      same-answers =
-          λ these those same.
-          alone b bytes chosen loaded these .answered
-          ∙ ap (answerPicks b s) same
-          ∙ sym (alone b bytes chosen loaded those .answered);
-      same-records =
-          λ these those same p m.
-          alone b bytes chosen loaded these .left p m
-          ∙ ap (λ (qs : List Query). recordOf b (runPicks b s qs) p) same
-          ∙ sym (alone b bytes chosen loaded those .left p m);
-      always-permitted = λ calls p m. reached calls s r .sound p m;
-      outsider-refused =
-          λ calls q about out. outsider-refused-here b bytes chosen loaded (run b s calls) (reached calls s r) q about out;
-    }
+module _ (s : State) (sound : Sound s) (chosen : List ℕ) (ready : Ready s chosen) where
+  start-reached : Reached (s .setup) chosen (ready .something) s
+  start-reached = record { sound = sound; same = refl }
+
+  -- the picks of a sequence, run alone
+  alone : (calls : List Call) → Erased (s .setup) chosen (ready .something) s s calls
+  alone calls = erase (s .setup) chosen (ready .something) calls s s start-reached start-reached (λ p m. refl)
+
+  -- a processor that a used entry of the accepted list names has an entry in the state
+  entry-there : (p : ℕ) → anyOf (eqb p) chosen ≡ true → hasEntry (entryOf (s .setup) p) ≡ true
+  unfolding entryOf
+  entry-there p m =
+      let b = s .setup .board in
+      subst⁻¹ (λ (es : List Entry). hasEntry (getD es (rowOf b p) noEntry) ≡ true) (sound .entries-its (ready .something))
+      (named-there b (listIn (s .setup .source)) p (sound .list-good (ready .something))
+      (allOf-member (namedIn (parts (listIn (s .setup .source)))) chosen p (ready .named) m))
+
+  reached : (calls : List Call) → Reached (s .setup) chosen (ready .something) (run s calls)
+  reached calls = run-reached (s .setup) chosen (ready .something) calls s start-reached
+
+  from-sound : Noninterference s chosen
+  from-sound =
+      record {
+        has-entry = entry-there;
+        same-answers =
+            λ these those same. alone these .answered ∙ ap (answerPicks s) same ∙ sym (alone those .answered);
+        same-records =
+            λ these those same p m.
+            alone these .left p m
+            ∙ ap (λ (qs : List Query). recordOf (runPicks s qs) p) same
+            ∙ sym (alone those .left p m);
+        always-permitted =
+            λ calls p m.
+            subst (λ (u : Setup). freeOrPermitted u p (recordOf (run s calls) p) ≡ true) (reached calls .same)
+            (reached calls .sound .holder-permitted p);
+        outsider-refused =
+            λ calls q about out.
+            outsider-refused-here (s .setup) chosen (ready .something) (run s calls) (reached calls) q about out;
+      }
+
+-- ---- the theorem
+
+pub noninterference : (b : Board) → FromEveryStart b
+noninterference b before chosen ready =
+    from-sound (run (fresh b) before) (sound-run before (fresh b) (sound-fresh b)) chosen ready
+
+-- the accepted list is in force
+loaded-is : (b : Board) (bytes : List ℕ) → accepted (verdictOf b false bytes) ≡ true
+    → afterOffer (fresh b) (list bytes) ≡ taken (fresh b) (list bytes)
+unfolding afterOffer verdictTo fresh listed
+loaded-is b bytes ok = cond-true _ _ ok
+
+loaded-ready : (b : Board) (bytes chosen : List ℕ) → allOf (namedIn (parts bytes)) chosen ≡ true → Ready (taken (fresh b) (list bytes)) chosen
+unfolding taken listed listIn
+loaded-ready b bytes chosen named = record { something = refl; named = named }
+
+pub freshly-loaded : (b : Board) → FreshlyLoaded b
+unfolding run next
+freshly-loaded b bytes chosen ok named =
+    noninterference b (offer (list bytes) ∷ []) chosen
+    (subst⁻¹ (λ (s : State). Ready s chosen) (loaded-is b bytes ok) (loaded-ready b bytes chosen named))
 
 -- ---- before the first accepted list
 
--- once accepted, a list stays accepted
-listed-stays : (b : Board) (cs : List Call) (s : State) → s .listed ≡ true → run b s cs .listed ≡ true
-unfolding run next afterMessage
-listed-stays b [] s e = e
-listed-stays b (list offered ∷ cs) s e =
-    listed-stays b cs (afterList b s offered) (ap (λ (t : State). t .listed) (list-kept b s offered e) ∙ e)
-listed-stays b (message channel m words buffer ∷ cs) s e =
-    listed-stays b cs (afterMessage b s (queryOf channel m words buffer)) e
+-- no call changes the board
+taken-board : (s : State) (o : Offer) → taken s o .setup .board ≡ s .setup .board
+unfolding taken
+taken-board s (list bytes) = refl
 
--- with no list accepted a message changes nothing
-message-kept : (b : Board) (s : State) (q : Query) → s .listed ≡ false → afterMessage b s q ≡ s
-unfolding afterMessage viewOf
-message-kept b s q e =
-    ⊎-elim (λ ok. clash (allowed b (viewOf b s (processorOf (q .message))) q ok .listed) e)
-    (λ refused. λ i. record { listed = s .listed; entries = s .entries; records = kept-records b s q refused i })
-    (decide (carriedOut (outcomeOf b (viewOf b s (processorOf (q .message))) q)))
+offer-board : (s : State) (o : Offer) → afterOffer s o .setup .board ≡ s .setup .board
+unfolding afterOffer
+offer-board s o =
+    ⊎-elim (λ ok. ap (λ (t : State). t .setup .board) (cond-true (taken s o) s ok) ∙ taken-board s o)
+    (λ no. ap (λ (t : State). t .setup .board) (cond-false (taken s o) s no))
+    (decide (accepted (verdictTo s o)))
 
--- a call that leaves the state leaves it to the rest of the sequence
-kept-then : (b : Board) (cs : List Call) (s t : State) → t ≡ s → (run b s cs .listed ≡ false → run b s cs ≡ s)
-    → run b t cs .listed ≡ false → run b t cs ≡ s
-kept-then b cs s t same rest end = ap (λ (x : State). run b x cs) same ∙ rest (ap (λ (x : State). run b x cs .listed) (sym same) ∙ end)
-
-kept-until : (b : Board) (cs : List Call) (s : State) → s .listed ≡ false → run b s cs .listed ≡ false → run b s cs ≡ s
-unfolding run next afterList
-kept-until b [] s e end = refl
-kept-until b (list offered ∷ cs) s e end =
-    ⊎-elim (λ taken. clash (listed-stays b cs (afterList b s offered) (rw taken)) end)
-    (λ refused. kept-then b cs s (afterList b s offered) (cond-false _ _ refused) (kept-until b cs s e) end)
-    (decide (accepted (verdictOf b (s .listed) offered)))
-kept-until b (message channel m words buffer ∷ cs) s e end =
-    let q = queryOf channel m words buffer in
-    kept-then b cs s (afterMessage b s q) (message-kept b s q e) (kept-until b cs s e) end
+board-stays : (cs : List Call) (s : State) → run s cs .setup .board ≡ s .setup .board
+unfolding run next afterMessage stored
+board-stays [] s = refl
+board-stays (offer o ∷ cs) s = board-stays cs (afterOffer s o) ∙ offer-board s o
+board-stays (message lent ∷ cs) s = board-stays cs (afterMessage s (queryOf lent))
 
 pub no-trace : (b : Board) → NoTrace b
 unfolding fresh
-no-trace b calls end = kept-until b calls (fresh b) refl end
+no-trace b calls none =
+    sound-run calls (fresh b) (sound-fresh b) .none-fresh none ∙ ap fresh (board-stays calls (fresh b))

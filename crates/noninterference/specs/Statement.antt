@@ -1,87 +1,91 @@
 -- "What demand 3 speaks of", and demand 3 as one claim about whole sequences of calls: `Noninterference`. Its theorem is in
--- proofs/Theorem.antt. The rules are those of crate `rules`, for any board. Assumes nothing.
+-- proofs/Theorem.antt. The rules are those of crate `rules`, for any board. Crate traces says the same of the code. Assumes nothing.
 use Prim.Native.Nat.{ℕ}
 use mathlib.Core.Path.{_≡_}
-use mathlib.Core.Bool.{Bool, true, false, cond, _&&_, _||_}
+use mathlib.Core.Bool.{Bool, true, false, cond, _&&_}
 use mathlib.Core.List.{List, [], _∷_}
 use lib.Dec.{eqb}
 use Rattle.rules.specs.Table.{anyOf, allOf}
 use Rattle.rules.specs.Board.{Board}
-use Rattle.rules.specs.AccessList.{hasEntry, permitted, verdictOf}
+use Rattle.rules.specs.AccessList.{parts, namedIn, hasEntry, verdictOf, accepted}
 use Rattle.rules.specs.Message.{Query, isAbout}
-use Rattle.rules.specs.Outcome.{isFree, carriedOut}
-use Rattle.rules.specs.Call.{State, fresh, entryOf, recordOf, accepted, afterList}
-use Rattle.rules.specs.Sequence.{Call, list, message, queryOf, next, run, Answer, answerTo}
+use Rattle.rules.specs.Outcome.{carriedOut}
+use Rattle.rules.specs.State.{listed, listIn, Setup, State, fresh, entryOf, recordOf}
+use Rattle.rules.specs.Call.{list, afterOffer, Answer, answerTo, queryOf, Call, offer, message, next}
+use Rattle.rules.specs.Sequence.{run, permittedFor, freeOrPermitted}
 
--- the start: the state that an accepted list leaves, the same for both sequences
-unfoldable pub start : Board → List ℕ → State
-start b bytes = afterList b (fresh b) bytes
-
--- a freshly loaded list, in which every chosen processor has an entry
-pub record Loaded (b : Board) (bytes chosen : List ℕ) : Type 0 where
-  pub taken : accepted (verdictOf b false bytes) ≡ true
-  pub named : allOf (λ (p : ℕ). hasEntry (entryOf b (start b bytes) p)) chosen ≡ true
+-- what the start must be: a list was accepted, and every chosen processor has an entry, that is, a used entry of that list's bytes names it
+pub record Ready (s : State) (chosen : List ℕ) : Type 0 where
+  pub something : listed (s .setup .source) ≡ true
+  pub named : allOf (namedIn (parts (listIn (s .setup .source)))) chosen ≡ true
 
 -- an "insider", 01's term: a host permitted for at least one chosen processor. Any other channel byte is an "outsider"
-unfoldable pub insider : Board → List ℕ → List ℕ → ℕ → Bool
-insider b bytes chosen h = anyOf (λ (p : ℕ). permitted b (entryOf b (start b bytes) p) h) chosen
+unfoldable pub insider : Setup → List ℕ → ℕ → Bool
+insider setup chosen h = anyOf (λ (p : ℕ). permittedFor setup p h) chosen
 
 -- the message is about a chosen processor
-unfoldable pub aboutChosen : List ℕ → List ℕ → Bool
-aboutChosen chosen m = anyOf (isAbout m) chosen
+unfoldable pub aboutChosen : List ℕ → Query → Bool
+aboutChosen chosen q = anyOf (isAbout q) chosen
 
 -- a message about a chosen processor whose channel host is an insider, whatever the header's host
-unfoldable pub picked : Board → List ℕ → List ℕ → Query → Bool
-picked b bytes chosen q = insider b bytes chosen (q .channel) && aboutChosen chosen (q .message)
+unfoldable pub picked : Setup → List ℕ → Query → Bool
+picked setup chosen q = insider setup chosen (q .channel) && aboutChosen chosen q
 
 -- the picks of a sequence, in order: channel host, message bytes, status words and answer room of each
-unfoldable pub picks : Board → List ℕ → List ℕ → List Call → List Query
-picks b bytes chosen [] = []
-picks b bytes chosen (list offered ∷ cs) = picks b bytes chosen cs
-picks b bytes chosen (message channel m words buffer ∷ cs) =
-    cond (picked b bytes chosen (queryOf channel m words buffer))
-    (queryOf channel m words buffer ∷ picks b bytes chosen cs)
-    (picks b bytes chosen cs)
+unfoldable pub picks : Setup → List ℕ → List Call → List Query
+picks setup chosen [] = []
+picks setup chosen (offer o ∷ cs) = picks setup chosen cs
+picks setup chosen (message lent ∷ cs) =
+    cond (picked setup chosen (queryOf lent)) (queryOf lent ∷ picks setup chosen cs) (picks setup chosen cs)
 
 -- the answers to the picks, in order, each given by the rules in the state that the calls before it left
-unfoldable pub answers : Board → List ℕ → List ℕ → State → List Call → List Answer
-answers b bytes chosen s [] = []
-answers b bytes chosen s (list offered ∷ cs) = answers b bytes chosen (next b s (list offered)) cs
-answers b bytes chosen s (message channel m words buffer ∷ cs) =
-    cond (picked b bytes chosen (queryOf channel m words buffer))
-    (answerTo b s (queryOf channel m words buffer)
-    ∷ answers b bytes chosen (next b s (message channel m words buffer)) cs)
-    (answers b bytes chosen (next b s (message channel m words buffer)) cs)
+unfoldable pub answers : Setup → List ℕ → State → List Call → List Answer
+answers setup chosen s [] = []
+answers setup chosen s (offer o ∷ cs) = answers setup chosen (next s (offer o)) cs
+answers setup chosen s (message lent ∷ cs) =
+    cond (picked setup chosen (queryOf lent))
+    (answerTo s (queryOf lent) ∷ answers setup chosen (next s (message lent)) cs)
+    (answers setup chosen (next s (message lent)) cs)
 
--- processor p is free or held by a host that its entry permits
-unfoldable pub freeOrPermitted : Board → List ℕ → State → ℕ → Bool
-freeOrPermitted b bytes s p =
-    isFree (recordOf b s p) || permitted b (entryOf b (start b bytes) p) (recordOf b s p .controller)
-
--- demand 3, for the list `bytes` and the chosen processors, over all sequences from the start
-pub record Noninterference (b : Board) (bytes chosen : List ℕ) : Type 0 where
+-- demand 3, for a start and the chosen processors, over all sequences of calls from that start, list calls among them
+pub record Noninterference (s : State) (chosen : List ℕ) : Type 0 where
+  -- each chosen processor has an entry, so that a host permitted for it is one that its entry names
+  pub has-entry : (p : ℕ) → anyOf (eqb p) chosen ≡ true → hasEntry (entryOf (s .setup) p) ≡ true
   -- sequences that agree in their picks give them the same answers
   pub same-answers :
       (these those : List Call)
-      → picks b bytes chosen these ≡ picks b bytes chosen those
-      → answers b bytes chosen (start b bytes) these ≡ answers b bytes chosen (start b bytes) those
+      → picks (s .setup) chosen these ≡ picks (s .setup) chosen those
+      → answers (s .setup) chosen s these ≡ answers (s .setup) chosen s those
   -- and leave the chosen processors the same records
   pub same-records :
       (these those : List Call)
-      → picks b bytes chosen these ≡ picks b bytes chosen those
+      → picks (s .setup) chosen these ≡ picks (s .setup) chosen those
       → (p : ℕ)
       → anyOf (eqb p) chosen ≡ true
-      → recordOf b (run b (start b bytes) these) p ≡ recordOf b (run b (start b bytes) those) p
+      → recordOf (run s these) p ≡ recordOf (run s those) p
   -- each chosen processor is at all times, at the start and after every call, free or held by a permitted host
   pub always-permitted :
-      (calls : List Call) (p : ℕ) → anyOf (eqb p) chosen ≡ true → freeOrPermitted b bytes (run b (start b bytes) calls) p ≡ true
+      (calls : List Call) (p : ℕ) → anyOf (eqb p) chosen ≡ true → freeOrPermitted (s .setup) p (recordOf (run s calls) p) ≡ true
   -- no outsider's message about a chosen processor is carried out, whatever came before it
   pub outsider-refused :
       (calls : List Call) (q : Query)
-      → aboutChosen chosen (q .message) ≡ true
-      → insider b bytes chosen (q .channel) ≡ false
-      → carriedOut (answerTo b (run b (start b bytes) calls) q .report .outcome) ≡ false
+      → aboutChosen chosen q ≡ true
+      → insider (s .setup) chosen (q .channel) ≡ false
+      → carriedOut (answerTo (run s calls) q .report .outcome) ≡ false
 
--- calls that come before the first accepted list leave the state as it was, so the start depends on the list alone
+-- from every state that calls left and that is such a start
+abbrev pub FromEveryStart : Board → Type 0
+FromEveryStart b =
+    (before : List Call) (chosen : List ℕ) → Ready (run (fresh b) before) chosen → Noninterference (run (fresh b) before) chosen
+
+-- the state that an accepted list leaves is one
+abbrev pub FreshlyLoaded : Board → Type 0
+FreshlyLoaded b =
+    (bytes chosen : List ℕ)
+    → accepted (verdictOf b false bytes) ≡ true
+    → allOf (namedIn (parts bytes)) chosen ≡ true
+    → Noninterference (afterOffer (fresh b) (list bytes)) chosen
+
+-- calls that come before the first accepted list leave the state as it was, so that start depends on the list alone
 abbrev pub NoTrace : Board → Type 0
-NoTrace b = (calls : List Call) → run b (fresh b) calls .listed ≡ false → run b (fresh b) calls ≡ fresh b
+NoTrace b = (calls : List Call) → listed (run (fresh b) calls .setup .source) ≡ false → run (fresh b) calls ≡ fresh b

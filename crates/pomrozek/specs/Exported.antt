@@ -7,8 +7,9 @@ use Rattle.rules.specs.Board.{ours}
 use Rattle.rules.specs.AccessList.{verdictOf, verdictNumber}
 use Rattle.rules.specs.Outcome.{outcomeNumber}
 use Rattle.rules.specs.Answer.{bufferAfter}
-use Rattle.rules.specs.Sequence.{message, queryOf, next, Answer, answerTo}
-use Rattle.access.specs.Memory.{listedIn, accessAfter}
+use Rattle.rules.specs.Call.{Answer, answerTo, Lent, queryOf, message, next}
+use Rattle.access.specs.Memory.{listedIn}
+use Rattle.loading.specs.Loaded.{accessAfter}
 use Rattle.records.specs.Memory.{recordsIn, stateIn}
 
 pub record ExportedList (access bytes access′ : List ℕ) (r : ℕ) : Type 0 where
@@ -19,16 +20,11 @@ pub record ExportedList (access bytes access′ : List ℕ) (r : ℕ) : Type 0 w
 abbrev pub reportWords : Report → List ℕ
 reportWords r = r .checks ∷ r .micros ∷ r .written ∷ []
 
-abbrev pub answered : List ℕ → List ℕ → ℕ → List ℕ → List ℕ → List ℕ → Answer
-answered access memory channel m words held = answerTo ours (stateIn access memory) (queryOf channel m words held)
+abbrev pub answered : List ℕ → List ℕ → Lent → Answer
+answered access memory lent = answerTo (stateIn access memory) (queryOf lent)
 
-pub record ExportedMessage
-    (access memory : List ℕ)
-    (channel : ℕ)
-    (m words held : List ℕ)
-    (memory′ held′ report′ : List ℕ)
-    (r : ℕ) : Type 0 where
-  pub outcome : r ≡ outcomeNumber (answered access memory channel m words held .report .outcome)
-  pub report : report′ ≡ reportWords (answered access memory channel m words held .report)
-  pub records : recordsIn memory′ ≡ next ours (stateIn access memory) (message channel m words held) .records
-  pub buffer : held′ ≡ bufferAfter (answered access memory channel m words held .bytes) held
+pub record ExportedMessage (access memory : List ℕ) (lent : Lent) (memory′ held′ report′ : List ℕ) (r : ℕ) : Type 0 where
+  pub outcome : r ≡ outcomeNumber (answered access memory lent .report .outcome)
+  pub report : report′ ≡ reportWords (answered access memory lent .report)
+  pub records : recordsIn memory′ ≡ next (stateIn access memory) (message lent) .records
+  pub buffer : held′ ≡ bufferAfter (answered access memory lent .bytes) (lent .buffer)

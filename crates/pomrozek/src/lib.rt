@@ -2,6 +2,7 @@
 // declares them and says who owns what. Numbers are document 01's: 0 for OK or accepted.
 ghost use mathlib.Core.Path.{_≡_};
 ghost use Prim.Native.Nat.{_≤_};
+ghost use Rattle.manager.specs.Calls.{lending};
 ghost use Rattle.pomrozek.specs.Exported.{ExportedList, ExportedMessage};
 use manager::message;
 use manager::offer_list;
@@ -36,7 +37,7 @@ pub extern "C" fn pomrozek_message(
     answer: &mut [u8],
     report: &mut [u32; 3],
 ) -> u32
-    ensures { λ r. ⌜ ExportedMessage (now (access .entry)) (now (records .entry)) channel (now (request .entry)) (now (status .entry)) (now (answer .entry)) (now (records .exit)) (now (answer .exit)) (now (report .exit)) r ⌝ }
+    ensures { λ r. ⌜ ExportedMessage (now (access .entry)) (now (records .entry)) (lending channel (now (request .entry)) (now (status .entry)) (now (answer .entry))) (now (records .exit)) (now (answer .exit)) (now (report .exit)) r ⌝ }
 {
     let told = message(access, records, channel, request, status, answer);
     let words = &mut report[..];

@@ -10,34 +10,32 @@ use lib.Dec.{leb}
 use borrow.Author.Tests.{lt-leb, le-leb}
 use Rattle.rules.specs.declared.Report.{Report}
 use Rattle.rules.specs.declared.Verdict.{Verdict}
-use Rattle.rules.specs.Bytes.{byteAt}
-use Rattle.rules.specs.Board.{ours}
 use Rattle.rules.specs.Message.{Query}
 use Rattle.rules.specs.Answer.{bufferAfter, reportOf}
-use Rattle.rules.specs.Call.{State}
-use Rattle.rules.specs.Sequence.{answerTo}
+use Rattle.rules.specs.State.{State}
+use Rattle.rules.specs.Call.{answerTo, Lent}
 use Rattle.rules.proofs.Tests.{clash}
 use Rattle.manager.specs.Calls.{ListCall, MessageCall}
 use Rattle.manager.proofs.TwoCalls.{written-short}
 use Rattle.lines.specs.Lines.{listLine, messageLine, hasRoom, printed, Printed}
 use Rattle.lines.proofs.Laid.{nothing-printed}
-use Rattle.recording.specs.Played.{PlayedList, PlayedMessage}
+use Rattle.recording.specs.Played.{PlayedList, lentIn, PlayedMessage}
 
 -- the line of what a message call reports and leaves at the start of its buffer
 line-is : (s : State) (q : Query) (told : Report) (held buffer : List ℕ)
-    → told ≡ answerTo ours s q .report
-    → buffer ≡ bufferAfter (answerTo ours s q .bytes) held
-    → messageLine told (take (told .written) buffer) ≡ messageLine (answerTo ours s q .report) (answerTo ours s q .bytes)
+    → told ≡ answerTo s q .report
+    → buffer ≡ bufferAfter (answerTo s q .bytes) held
+    → messageLine told (take (told .written) buffer) ≡ messageLine (answerTo s q .report) (answerTo s q .bytes)
 unfolding answerTo reportOf
 line-is s q told held buffer same wrote =
-    let bytes = answerTo ours s q .bytes in
+    let bytes = answerTo s q .bytes in
     ap₂ messageLine same
     (ap₂ take (ap (λ (r : Report). r .written) same) wrote ∙ take-append-seam bytes (drop (length bytes) held))
 
 -- at most 29 bytes are written
-pub written-few : (access memory : List ℕ) (channel : ℕ) (m words held memory′ buffer : List ℕ) (told : Report)
-    → MessageCall access memory channel m words held memory′ buffer told → told .written ≤ 29
-written-few access memory channel m words held memory′ buffer told call =
+pub written-few : (access memory : List ℕ) (lent : Lent) (memory′ buffer : List ℕ) (told : Report)
+    → MessageCall access memory lent memory′ buffer told → told .written ≤ 29
+written-few access memory lent memory′ buffer told call =
     subst⁻¹ (λ (r : Report). r .written ≤ 29) (call .report) (written-short _ _)
 
 module _ (access body line : List ℕ) where
@@ -61,12 +59,12 @@ module _ (access memory body words line : List ℕ) where
       record { prints = nothing-printed line _ _ gone; records = rw gone; kept = λ _. refl }
 
   pub message-played : (memory′ line′ buffer : List ℕ) (told : Report) (n : ℕ) → 96 ≤ length line
-      → MessageCall access memory (byteAt body 0) (drop 1 body) words (replicate 29 0) memory′ buffer told
+      → MessageCall access memory (lentIn body words) memory′ buffer told
       → Printed line (printed (hasRoom line && leb (length (take (told .written) buffer)) 29) (messageLine told (take (told .written) buffer))) line′ n
       → PlayedMessage access memory body words line memory′ line′ n
   message-played memory′ line′ buffer told n h call shown =
       let room = le-leb 96 (length line) h in
-      let wrote = written-few access memory _ _ words _ memory′ buffer told call in
+      let wrote = written-few access memory (lentIn body words) memory′ buffer told call in
       let short : length (take (told .written) buffer) ≤ 29 = rw length-take (omega arith) in
       let fits = le-leb (length (take (told .written) buffer)) 29 short in
       let text = line-is _ _ told (replicate 29 0) buffer (call .report) (call .buffer) in

@@ -9,9 +9,11 @@ use Rattle.rules.specs.Bytes.{byteAt}
 use Rattle.rules.specs.declared.Record.{Record}
 use Rattle.rules.specs.Board.{ours}
 use Rattle.rules.specs.AccessList.{verdictOf}
-use Rattle.rules.specs.Sequence.{Call, message, queryOf, next, Answer, answerTo}
-use Rattle.access.specs.Memory.{listedIn, accessAfter}
+use Rattle.rules.specs.Call.{Answer, answerTo, Lent, queryOf, message, next}
+use Rattle.access.specs.Memory.{listedIn}
+use Rattle.loading.specs.Loaded.{accessAfter}
 use Rattle.records.specs.Memory.{recordsIn, stateIn}
+use Rattle.manager.specs.Calls.{lending}
 use Rattle.lines.specs.Lines.{listLine, messageLine, hasRoom, printed, Printed}
 
 -- a list field: its body is offered
@@ -23,19 +25,18 @@ pub record PlayedList (access body line access′ line′ : List ℕ) (n : ℕ) 
   pub memory : access′ ≡ cond (hasRoom line) (accessAfter access body) access
 
 -- a message field: its first byte is the channel host, the rest the message; the answer buffer has 29 bytes
-abbrev pub callIn : List ℕ → List ℕ → Call
-callIn body words = message (byteAt body 0) (drop 1 body) words (replicate 29 0)
+abbrev pub lentIn : List ℕ → List ℕ → Lent
+lentIn body words = lending (byteAt body 0) (drop 1 body) words (replicate 29 0)
 
 abbrev pub answerIn : List ℕ → List ℕ → List ℕ → List ℕ → Answer
-answerIn access memory body words =
-    answerTo ours (stateIn access memory) (queryOf (byteAt body 0) (drop 1 body) words (replicate 29 0))
+answerIn access memory body words = answerTo (stateIn access memory) (queryOf (lentIn body words))
 
 abbrev pub messageText : List ℕ → List ℕ → List ℕ → List ℕ → List ℕ
 messageText access memory body words =
     messageLine (answerIn access memory body words .report) (answerIn access memory body words .bytes)
 
 abbrev pub recordsAfter : List ℕ → List ℕ → List ℕ → List ℕ → List Record
-recordsAfter access memory body words = next ours (stateIn access memory) (callIn body words) .records
+recordsAfter access memory body words = next (stateIn access memory) (message (lentIn body words)) .records
 
 pub record PlayedMessage (access memory body words line memory′ line′ : List ℕ) (n : ℕ) : Type 0 where
   pub prints : Printed line (printed (hasRoom line) (messageText access memory body words)) line′ n

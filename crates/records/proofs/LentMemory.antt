@@ -2,22 +2,24 @@
 -- that it names is what stands at its row. Assumes nothing.
 use Prim.Native.Nat.{ℕ, zero, suc, _+_, _*_, _≤_, _<_}
 use mathlib.Core.Path.{_≡_, refl, sym, ap, _∙_}
+use mathlib.Core.Bool.{true, false}
 use mathlib.Core.List.{List, [], _∷_}
 use mathlib.Core.Logic.{_⊎_, inl, inr, ⊎-elim}
 use native.Mathlib.Nat.{add-zero, add-suc, suc-add, zero-add, not-suc-le-zero, le-of-suc-le-suc}
 use native.Mathlib.Numerals.{towards-suc}
 use native.Mathlib.Omega.{arith}
 use lib.ListN.{length, getD, set, replicate, length-set, List·getD-eq-default}
-use lib.Seq.{sets, getD-set-same, getD-set-other}
+use lib.Seq.{sets, set-getD, getD-set-same, getD-set-other}
 use lib.Dec.{ltb}
 use borrow.Author.Tests.{lt-ltb, le-ltb, ltb-true, ltb-false}
 use Rattle.rules.specs.declared.Record.{Record}
 use Rattle.rules.specs.Board.{ours, rows, rowOf}
 use Rattle.rules.specs.AccessList.{noEntry, noEntries}
-use Rattle.rules.specs.Call.{freeRecord, fresh, entryOf, recordOf, viewOf}
+use Rattle.rules.specs.State.{listed, freeRecord, fresh, entryOf, recordOf, viewOf}
 use Rattle.rules.proofs.Tests.{decide}
 use Rattle.rules.proofs.Rows.{row-within}
-use Rattle.access.specs.Memory.{byRow, listedIn, entryAt, entriesIn}
+use Rattle.access.specs.Memory.{byRow, listedIn, entryAt, entriesIn, someList, setupIn}
+use Rattle.access.proofs.Kept.{listed-some}
 use Rattle.records.specs.Memory.{recordAt, recordsIn, stateIn, viewIn, withRecord}
 
 -- ---- rows
@@ -145,6 +147,23 @@ pub records-kept : (m : List ℕ) (row : ℕ) (r : Record) → length m ≡ 20 �
 unfolding withRecord
 records-kept m row r size h = rw (le-ltb (5 * row + 4) (length m) (omega arith))
 
+-- a record put where it stands changes nothing
+pub store-same : (m : List ℕ) (row : ℕ) → withRecord m row (recordAt m row) ≡ m
+unfolding withRecord
+store-same m row =
+    ⊎-elim
+    (λ (t : ltb (5 * row + 4) (length m) ≡ true).
+    rw t
+    (rw (
+      set-getD m (5 * row) 0,
+      set-getD m (5 * row + 1) 0,
+      set-getD m (5 * row + 2) 0,
+      set-getD m (5 * row + 3) 0,
+      set-getD m (5 * row + 4) 0,
+    )))
+    (λ (f : ltb (5 * row + 4) (length m) ≡ false). rw f)
+    (decide (ltb (5 * row + 4) (length m)))
+
 -- ---- what a call sees
 
 -- past the last row there is no entry and no record
@@ -154,11 +173,9 @@ no-entry-past a size =
     λ t.
     record {
       master = List·getD-eq-default a 0 {n = 17} (omega arith) t;
-      secondaries =
-          List·getD-eq-default a 0 {n = 18} (omega arith) t
-          ∷ List·getD-eq-default a 0 {n = 19} (omega arith) t
-          ∷ List·getD-eq-default a 0 {n = 20} (omega arith) t
-          ∷ [];
+      first = List·getD-eq-default a 0 {n = 18} (omega arith) t;
+      second = List·getD-eq-default a 0 {n = 19} (omega arith) t;
+      third = List·getD-eq-default a 0 {n = 20} (omega arith) t;
     }
 
 no-record-past : (m : List ℕ) → length m ≡ 20 → recordAt m (rows ours) ≡ freeRecord
@@ -174,17 +191,18 @@ no-record-past m size =
     }
 
 -- what a message sees of the processor that it names is what stands at its row
-pub view-in : (a m : List ℕ) (p : ℕ) → length a ≡ 17 → length m ≡ 20 → viewOf ours (stateIn a m) p ≡ viewIn a m (rowOf ours p)
-unfolding viewOf entryOf recordOf stateIn viewIn entriesIn recordsIn
+pub view-in : (a m : List ℕ) (p : ℕ) → length a ≡ 17 → length m ≡ 20 → viewOf (stateIn a m) p ≡ viewIn a m (rowOf ours p)
+unfolding viewOf entryOf recordOf stateIn setupIn viewIn entriesIn recordsIn
 view-in a m p la lm =
     λ t.
     record {
-      listed = listedIn a;
+      board = ours;
+      listed = listed-some (listedIn a) t;
       entry = byRow-all (entryAt a) noEntry (rows ours) (rowOf ours p) (row-within ours p) (no-entry-past a la) t;
       state = byRow-all (recordAt m) freeRecord (rows ours) (rowOf ours p) (row-within ours p) (no-record-past m lm) t;
     }
 
 -- memory that is all zeros is a fresh manager
 pub zeros-fresh : stateIn (replicate 17 0) (replicate 20 0) ≡ fresh ours
-unfolding stateIn listedIn entriesIn recordsIn byRow entryAt fresh noEntries noEntry rows ours freeRecord
+unfolding stateIn setupIn someList listedIn entriesIn recordsIn byRow entryAt fresh noEntries noEntry rows ours freeRecord
 zeros-fresh = refl

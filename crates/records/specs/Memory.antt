@@ -8,8 +8,8 @@ use lib.Dec.{ltb}
 use Rattle.rules.specs.declared.Record.{Record}
 use Rattle.rules.specs.Board.{ours, rows}
 use Rattle.rules.specs.Outcome.{View}
-use Rattle.rules.specs.Call.{State}
-use Rattle.access.specs.Memory.{byRow, listedIn, entryAt, entriesIn}
+use Rattle.rules.specs.State.{State}
+use Rattle.access.specs.Memory.{byRow, setupIn, keptSetup, viewWith}
 
 -- the place of a row's first word
 abbrev pub recordPlace : ℕ → ℕ
@@ -30,13 +30,15 @@ recordsIn m = byRow (recordAt m) 0 (rows ours)
 
 -- the rules' state, read out of the two lent memories
 unfoldable pub stateIn : List ℕ → List ℕ → State
-stateIn access records =
-    record { listed = listedIn access; entries = entriesIn access; records = recordsIn records }
+stateIn access records = record { setup = setupIn access; records = recordsIn records }
+
+-- what the memories keep of a state: all but the bytes of the accepted list
+unfoldable pub kept : State → State
+kept s = record { setup = keptSetup (s .setup); records = s .records }
 
 -- what a message about the processor at a row sees of it
 unfoldable pub viewIn : List ℕ → List ℕ → ℕ → View
-viewIn access records row =
-    record { listed = listedIn access; entry = entryAt access row; state = recordAt records row }
+viewIn access records row = viewWith access row (recordAt records row)
 
 -- the record memory with a record put at a row; a row that is not there is left alone
 unfoldable pub withRecord : List ℕ → ℕ → Record → List ℕ

@@ -1,15 +1,13 @@
 // The effect of OK on the record of the processor that a message names.
 ghost use mathlib.Core.Path.{_≡_};
 ghost use Rattle.rules.specs.Flags.{newWord};
-ghost use Rattle.rules.specs.Effect.{heldBy, withConfig, withControl, effectOf};
+ghost use Rattle.rules.specs.Effect.{heldBy, withConfig, withControl};
 use messages::keeps_vector;
-use rules::Kind;
 use rules::Record;
-use wire::byte_at;
 use wire::u32_at;
 
 // The record with `host` as its controller, 0 for none; the other fields are kept.
-fn held_by(host: u8, kept: Record) -> Record
+pub fn held_by(host: u8, kept: Record) -> Record
     ensures { λ r. ⌜ r ≡ heldBy host kept ⌝ }
 {
     Record {
@@ -29,7 +27,7 @@ pub fn new_word(old: u32, set: u32, clear: u32) -> u32
 }
 
 // Set config: the word, and the vector unless bit 28 is named.
-fn with_config(message: &[u8], state: Record) -> Record
+pub fn with_config(message: &[u8], state: Record) -> Record
     ensures { λ r. ⌜ r ≡ withConfig (now (message .entry)) state ⌝ }
 {
     let set = u32_at(message, 17);
@@ -54,7 +52,7 @@ fn with_config(message: &[u8], state: Record) -> Record
 }
 
 // Set control: the word alone.
-fn with_control(message: &[u8], state: Record) -> Record
+pub fn with_control(message: &[u8], state: Record) -> Record
     ensures { λ r. ⌜ r ≡ withControl (now (message .entry)) state ⌝ }
 {
     let set = u32_at(message, 9);
@@ -65,22 +63,5 @@ fn with_control(message: &[u8], state: Record) -> Record
         high: state.high,
         config: state.config,
         control: new_word(state.control, set, clear),
-    }
-}
-
-// The record after a message of this kind from `sender` is carried out.
-pub fn effect(kind: Kind, sender: u8, message: &[u8], state: Record) -> Record
-    ensures { λ r. ⌜ r ≡ effectOf kind sender (now (message .entry)) state ⌝ }
-{
-    match kind {
-        Kind::Request => held_by(sender, state),
-        Kind::Release => held_by(0, state),
-        Kind::Handover => held_by(byte_at(message, 9), state),
-        Kind::SetConfig => with_config(message, state),
-        Kind::SetControl => with_control(message, state),
-        Kind::AuthBoot => state,
-        Kind::GetStatus => state,
-        Kind::WaitStatus => state,
-        Kind::Other => state,
     }
 }

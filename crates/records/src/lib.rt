@@ -3,7 +3,9 @@
 mod effects;
 mod memory;
 
-pub use effects::effect;
+pub use effects::held_by;
 pub use effects::new_word;
+pub use effects::with_config;
+pub use effects::with_control;
 pub use memory::load;
 pub use memory::store;

@@ -29,13 +29,6 @@ pub record PlayedField (tag count : ℕ) (body access records words line access�
   pub list-keeps : tag ≡ 1 → records′ ≡ records
   pub status-keeps : tag ≡ 2 → records′ ≡ records
 
--- a bad record
-abbrev pub isBad : Found → Bool
-isBad (Whole tag n) = false
-isBad Bad = true
-isBad Partial = false
-isBad Nothing = false
-
 -- what a session goes on from: the beginning of a field, with more to come, and the end of what was read
 abbrev pub waits : Found → Bool
 waits (Whole tag n) = false

@@ -11,12 +11,20 @@ use lines::bad_line;
 use lines::cut_line;
 use recording::list_line;
 use recording::message_line;
+use session::Gathered;
+use session::Progress;
+use session::Written;
+use session::after_write;
+use session::both;
+use session::ended;
+use session::is_bad;
 ghost use Prim.Native.Nat.{_+_, _-_, _≤_};
 ghost use lib.ListN.{length, take, drop};
 ghost use mathlib.Core.Path.{_≡_};
-ghost use mathlib.Core.Bool.{true, false, _&&_, not};
+ghost use mathlib.Core.Bool.{true, false};
 ghost use Rattle.fields.specs.Fields.{foundAt};
-ghost use Rattle.replay.specs.Session.{PlayedField, LeftOver, memories, Reached, isBad, waits, roomLeft, placeIn};
+ghost use Rattle.replay.specs.Session.{PlayedField, LeftOver, memories, Reached, waits, roomLeft, placeIn};
+ghost use Rattle.session.specs.Ends.{isBad};
 
 // What a field leaves: the length of the line it printed, and how many status words stand.
 struct Played {
@@ -57,22 +65,6 @@ fn play_field(
     }
 }
 
-// Lines gathered: how many bytes, and whether the write went well, if there was one.
-struct Gathered {
-    pub used: usize,
-    pub good: bool,
-}
-
-// After all that was gathered is written, it starts anew. A write that failed is reported.
-fn after_write(written: bool) -> Gathered
-    ensures { λ r. ⌜ (r .used ≡ 0) × (r .good ≡ written) ⌝ }
-{
-    Gathered {
-        used: 0,
-        good: written,
-    }
-}
-
 // Makes room for a line: where less than 96 bytes are left, the lines that are gathered are written.
 fn make_room(out: &[u8], used: usize) -> Gathered
     requires { ⌜ used ≤ length (now out) ⌝ }
@@ -87,52 +79,21 @@ fn make_room(out: &[u8], used: usize) -> Gathered
     after_write(write_all(1, &out[..used]))
 }
 
-// What two writes report together: well only where both went well.
-fn both(first: bool, second: bool) -> bool
-    ensures { λ r. ⌜ r ≡ (first && second) ⌝ }
-{
-    first & second
-}
-
-// Writes the lines that are gathered, and a last one.
-fn finish(out: &[u8], used: usize, last: &[u8]) -> bool
+// Writes the lines that are gathered, and a last one behind them: not where the first write failed.
+fn finish(out: &[u8], used: usize, last: &[u8]) -> Written
     requires { ⌜ used ≤ length (now out) ⌝ }
+    ensures { λ r. ⌜ (r .last ≡ true → r .gathered ≡ true) ⌝ }
 {
-    let written = write_all(1, &out[..used]);
-    if !written {
-        return both(written, false);
+    let gathered = write_all(1, &out[..used]);
+    if !gathered {
+        return Written {
+            gathered,
+            last: false,
+        };
     }
-    both(written, write_all(1, last))
-}
-
-// How far a buffer was played: the place of the first byte that is left, how many status words stand,
-// and whether the session goes on.
-struct Progress {
-    pub at: usize,
-    pub words: usize,
-    pub goes: bool,
-}
-
-// Where the playing of a buffer ends. A bad record ends the session, and so does a write that failed.
-fn ended(bad: bool, written: bool, at: usize, words: usize) -> Progress
-    ensures { λ r. ⌜ (r .at ≡ at) × (r .words ≡ words) × (r .goes ≡ (not bad && written)) ⌝ }
-{
-    Progress {
-        at,
-        words,
-        goes: !bad & written,
-    }
-}
-
-// Whether a bad record stands there.
-fn is_bad(found: Found) -> bool
-    ensures { λ r. ⌜ r ≡ isBad found ⌝ }
-{
-    match found {
-        Found::Whole(_, _) => false,
-        Found::Bad => true,
-        Found::Partial => false,
-        Found::Nothing => false,
+    Written {
+        gathered,
+        last: write_all(1, last),
     }
 }
 
@@ -145,9 +106,9 @@ fn stopped(found: Found, at: usize, words: usize, out: &[u8], used: usize) -> Pr
     let bad = is_bad(found);
     if bad {
         let written = finish(out, used, &bad_line());
-        return ended(bad, written, at, words);
+        return ended(bad, both(written), at, words);
     }
-    ended(bad, finish(out, used, b""), at, words)
+    ended(bad, both(finish(out, used, b"")), at, words)
 }
 
 // Plays every whole field of `input`. Lines are gathered in `output` and written when it is full and

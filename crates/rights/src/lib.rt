@@ -3,7 +3,9 @@
 mod operands;
 mod rights;
 
+pub use operands::config_good;
+pub use operands::control_good;
 pub use operands::flags_good;
-pub use operands::operands_good;
 pub use operands::wait_good;
-pub use rights::has_right;
+pub use rights::is_controller;
+pub use rights::may_request;

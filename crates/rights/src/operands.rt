@@ -3,19 +3,13 @@ ghost use mathlib.Core.Path.{_≡_};
 ghost use mathlib.Core.Bool.{cond};
 ghost use lib.Bits.{bitOr};
 ghost use lib.Dec.{eqb};
-ghost use Rattle.rules.specs.Board.{ours, classAt, configWord};
+ghost use Rattle.rules.specs.Board.{configWord};
 ghost use Rattle.rules.specs.Flags.{flagsGood, vectorGood};
 ghost use Rattle.rules.specs.Wait.{waitGood};
-ghost use Rattle.rules.specs.Outcome.{configGood, controlGood, operandsGood};
-ghost use Rattle.access.specs.Memory.{entryAt};
-use access::is_permitted;
-use board::class_at;
+ghost use Rattle.rules.specs.Outcome.{configGood, controlGood};
 use board::mask_of;
 use messages::keeps_vector;
-use messages::wait_in;
-use rules::Kind;
 use rules::Wait;
-use wire::byte_at;
 use wire::u32_at;
 
 // The bits that a clear word may name: the mask, and for config bit 28 too.
@@ -42,7 +36,8 @@ fn vector_good(class: usize, low: u32) -> bool
     (class != 0) | (low % 128 == 0)
 }
 
-fn config_good(class: usize, message: &[u8]) -> bool
+// Whether the operands of set config are right: its flags, and its vector unless bit 28 is named.
+pub fn config_good(class: usize, message: &[u8]) -> bool
     ensures { λ r. ⌜ r ≡ configGood class (now (message .entry)) ⌝ }
 {
     let low = u32_at(message, 9);
@@ -51,7 +46,8 @@ fn config_good(class: usize, message: &[u8]) -> bool
     flags_good(class, 0, set, clear) & (keeps_vector(clear) | vector_good(class, low))
 }
 
-fn control_good(class: usize, message: &[u8]) -> bool
+// Whether the operands of set control are right: its flags.
+pub fn control_good(class: usize, message: &[u8]) -> bool
     ensures { λ r. ⌜ r ≡ controlGood class (now (message .entry)) ⌝ }
 {
     let set = u32_at(message, 9);
@@ -65,21 +61,4 @@ pub fn wait_good(w: Wait) -> bool
     (w.waits != 0)
         & (w.matches != 0)
         & !((w.allset == 0) & (w.anyset == 0) & (w.allclear == 0) & (w.anyclear == 0))
-}
-
-// Whether the operands are right for a message of this kind about the processor at `row`.
-pub fn operands_good(kind: Kind, access: &[u16], row: u8, message: &[u8]) -> bool
-    ensures { λ r. ⌜ r ≡ operandsGood kind ours (entryAt (now (access .entry)) row) (classAt ours row) (now (message .entry)) ⌝ }
-{
-    match kind {
-        Kind::Request => true,
-        Kind::Release => true,
-        Kind::Handover => is_permitted(access, row, byte_at(message, 9) as u16),
-        Kind::SetConfig => config_good(class_at(row), message),
-        Kind::SetControl => control_good(class_at(row), message),
-        Kind::AuthBoot => true,
-        Kind::GetStatus => true,
-        Kind::WaitStatus => wait_good(wait_in(message)),
-        Kind::Other => true,
-    }
 }

@@ -3,4 +3,6 @@ pub mod Tests
 pub mod Bench
 pub mod Rows
 pub mod Rights
+pub mod Entries
+pub mod Sound
 pub mod Flags

@@ -59,6 +59,19 @@ unfolding firstOf
 firstOf-append other [] below = refl
 firstOf-append other ((test gives a) ∷ above) below = ap (cond test a) (firstOf-append other above below)
 
+-- a table that comes to a good answer, whatever answers are good: a line on top that gives no good one has a test that fails
+module _ {A : Type 0} (good : A → Bool) (other : A) (test : Bool) (a : A) (below : List (Line A)) (bad : good a ≡ false)
+    (comes : good (firstOf other ((test gives a) ∷ below)) ≡ true) where
+  pub cleared : test ≡ false
+  unfolding firstOf
+  cleared =
+      ⊎-elim (λ t. clash (rw (cond-true a (firstOf other below) t) at comes) bad) (λ f. f) (decide test)
+
+  -- and the lines below it come to the good answer
+  pub passed : good (firstOf other below) ≡ true
+  unfolding firstOf
+  passed = rw (cond-false a (firstOf other below) cleared) at comes
+
 -- ---- searches
 
 -- a member that passes is one that passes

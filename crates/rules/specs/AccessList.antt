@@ -11,13 +11,16 @@ use Rattle.rules.specs.Table.{Line, _gives_, firstOf, anyOf}
 use Rattle.rules.specs.Bytes.{byteAt, u16At}
 use Rattle.rules.specs.Board.{Board, boardHost, activeHost, rows, rowOf, onBoard}
 
--- what an entry says of its processor. A7 keeps master 0 out of a list, so master 0 stands for no entry
+-- what an entry says of its processor: the recovery master and three secondaries. A7 keeps master 0 out of a list, so master 0 stands
+-- for no entry
 pub record Entry : Type 0 where
   pub master : ℕ
-  pub secondaries : List ℕ
+  pub first : ℕ
+  pub second : ℕ
+  pub third : ℕ
 
 unfoldable pub noEntry : Entry
-noEntry = record { master = 0; secondaries = 0 ∷ 0 ∷ 0 ∷ [] }
+noEntry = record { master = 0; first = 0; second = 0; third = 0 }
 
 -- ---- the list's parts
 
@@ -46,11 +49,11 @@ secondariesIn part = u16At part 3 ∷ u16At part 5 ∷ u16At part 7 ∷ []
 abbrev pub used : List ℕ → Bool
 used part = not (eqb (processorIn part) 0)
 
--- ---- why a list is refused
-
--- p is the processor of one of these entries. Asked of a used entry's processor, so an unused entry is never the one
+-- a used entry of these names processor p
 unfoldable pub namedIn : List (List ℕ) → ℕ → Bool
-namedIn earlier p = anyOf (λ (part : List ℕ). eqb (processorIn part) p) earlier
+namedIn entries p = anyOf (λ (part : List ℕ). used part && eqb (processorIn part) p) entries
+
+-- ---- why a list is refused
 
 -- a secondary that is neither 0 nor a board host; 0 is itself a board host, and as a secondary is unused
 abbrev pub badSecondary : Board → ℕ → Bool
@@ -83,7 +86,7 @@ listTable b listed list =
 unfoldable pub verdictOf : Board → Bool → List ℕ → Verdict
 verdictOf b listed list = firstOf Accepted (listTable b listed list)
 
--- document 01's number of a verdict: 0 for an accepted list, and k for Ak
+-- document 01's number of a verdict: 0 for what was accepted, and k for Ak
 abbrev pub verdictNumber : Verdict → ℕ
 verdictNumber Accepted = 0
 verdictNumber A1 = 1
@@ -95,10 +98,14 @@ verdictNumber A6 = 6
 verdictNumber A7 = 7
 verdictNumber A8 = 8
 
+unfoldable pub accepted : Verdict → Bool
+accepted v = eqb (verdictNumber v) 0
+
 -- ---- the entries that an accepted list leaves, by row
 
 unfoldable pub entryIn : List ℕ → Entry
-entryIn part = record { master = masterIn part; secondaries = secondariesIn part }
+entryIn part =
+    record { master = masterIn part; first = u16At part 3; second = u16At part 5; third = u16At part 7 }
 
 -- a used entry is put at its processor's row
 unfoldable pub withPart : Board → List ℕ → List Entry → List Entry
@@ -125,7 +132,7 @@ isMaster e h = hasEntry e && eqb (e .master) h
 
 -- a secondary of 0 is unused
 unfoldable pub isSecondary : Entry → ℕ → Bool
-isSecondary e h = not (eqb h 0) && anyOf (λ (s : ℕ). eqb s h) (e .secondaries)
+isSecondary e h = not (eqb h 0) && (eqb (e .first) h || eqb (e .second) h || eqb (e .third) h)
 
 -- "permitted", 01's term: with an entry its master and its used secondaries, without one every board host but 0
 unfoldable pub permitted : Board → Entry → ℕ → Bool

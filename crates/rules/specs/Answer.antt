@@ -1,4 +1,5 @@
--- The answer's bytes, what a call reports, and what the answer buffer holds afterwards. Assumes nothing.
+-- "Messages", its paragraph on the answer, and the last column of "Outcomes": the answer's bytes, what a call reports, and what the answer
+-- buffer holds afterwards. Assumes nothing.
 use Prim.Native.Nat.{ℕ}
 use mathlib.Core.Bool.{Bool, cond, _&&_, _||_}
 use lib.Dec.{eqb}
@@ -11,7 +12,6 @@ use Rattle.rules.specs.declared.Outcome.the-variants.{N9}
 use Rattle.rules.specs.declared.Record.{Record}
 use Rattle.rules.specs.declared.Report.{Report}
 use Rattle.rules.specs.Bytes.{byteAt, u32Bytes}
-use Rattle.rules.specs.Board.{Board}
 use Rattle.rules.specs.Message.{Query, answerAsked, isKind, kindIn, processorOf, waitIn}
 use Rattle.rules.specs.Wait.{checksOf, microsOf}
 use Rattle.rules.specs.Outcome.{View, outcomeOf, outcomeNumber, carriedOut, silent}
@@ -33,34 +33,39 @@ statusBytes m r status =
     processorOf m
     ∷ (u32Bytes (r .low) ++ u32Bytes (r .high) ++ u32Bytes (r .config) ++ u32Bytes (r .control) ++ u32Bytes status)
 
+-- the first status word is the status now
+abbrev pub statusNow : Query → ℕ
+statusNow q = getD (q .status) 0 0
+
 -- every other answer is the header alone
-unfoldable pub ackBytes : Kind → List ℕ → Record → ℕ → List ℕ
-ackBytes k m r status = cond (isKind k GetStatus) (ack m ++ statusBytes m r status) (ack m)
+unfoldable pub ackBytes : Kind → Query → Record → List ℕ
+ackBytes k q r =
+    cond (isKind k GetStatus) (ack (q .message) ++ statusBytes (q .message) r (statusNow q)) (ack (q .message))
 
 -- the table's last column: ACK, none or NAK
-unfoldable pub bytesFor : Outcome → List ℕ → Record → ℕ → List ℕ
-bytesFor o m r status = cond (carriedOut o) (ackBytes (kindIn m) m r status) (cond (silent o) [] (nak m))
+unfoldable pub bytesFor : Outcome → Query → Record → List ℕ
+bytesFor o q r = cond (carriedOut o) (ackBytes (kindIn (q .message)) q r) (cond (silent o) [] (nak (q .message)))
 
 -- NAK and ACK are written only when asked for
-unfoldable pub answerBytes : Outcome → List ℕ → Record → ℕ → List ℕ
-answerBytes o m r status = cond (answerAsked m) (bytesFor o m r status) []
+unfoldable pub answerBytes : Outcome → Query → Record → List ℕ
+answerBytes o q r = cond (answerAsked (q .message)) (bytesFor o q r) []
 
--- the bytes that a call writes. The first status word is the status now
-unfoldable pub answerOf : Board → View → Query → List ℕ
-answerOf b v q = answerBytes (outcomeOf b v q) (q .message) (v .state) (getD (q .status) 0 0)
+-- the bytes that a call writes
+unfoldable pub answerOf : View → Query → List ℕ
+answerOf v q = answerBytes (outcomeOf v q) q (v .state)
 
 -- the outcome carries the checks made and the microseconds where a wait ended, OK or N9
 unfoldable pub waited : Kind → Outcome → Bool
 waited k o = isKind k WaitStatus && (carriedOut o || eqb (outcomeNumber o) (outcomeNumber N9))
 
 -- what the call reports; other outcomes report 0 and 0
-unfoldable pub reportOf : Board → View → Query → Report
-reportOf b v q =
+unfoldable pub reportOf : View → Query → Report
+reportOf v q =
     record {
-      outcome = outcomeOf b v q;
-      checks = cond (waited (kindIn (q .message)) (outcomeOf b v q)) (checksOf (waitIn (q .message)) (q .status)) 0;
-      micros = cond (waited (kindIn (q .message)) (outcomeOf b v q)) (microsOf (waitIn (q .message)) (q .status)) 0;
-      written = length (answerOf b v q);
+      outcome = outcomeOf v q;
+      checks = cond (waited (kindIn (q .message)) (outcomeOf v q)) (checksOf (waitIn (q .message)) (q .status)) 0;
+      micros = cond (waited (kindIn (q .message)) (outcomeOf v q)) (microsOf (waitIn (q .message)) (q .status)) 0;
+      written = length (answerOf v q);
     }
 
 -- bytes of the answer buffer beyond the answer keep their values

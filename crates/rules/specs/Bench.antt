@@ -9,11 +9,9 @@ use Rattle.rules.specs.declared.Record.{Record}
 use Rattle.rules.specs.declared.Verdict.{Verdict}
 use Rattle.rules.specs.declared.Verdict.the-variants.{Accepted, A1, A7}
 use Rattle.rules.specs.Bytes.{u32Bytes}
-use Rattle.rules.specs.Board.{ours}
-use Rattle.rules.specs.AccessList.{verdictOf}
-use Rattle.rules.specs.Message.{processorOf}
-use Rattle.rules.specs.Call.{State, recordOf}
-use Rattle.rules.specs.Sequence.{Call, list, message, queryOf, next, Answer, answerTo}
+use Rattle.rules.specs.Message.{subjectOf}
+use Rattle.rules.specs.State.{State, recordOf}
+use Rattle.rules.specs.Call.{list, verdictTo, Answer, answerTo, queryOf, Call, offer, message, next}
 
 -- ---- the calls of the cases
 
@@ -28,34 +26,37 @@ listWithMaster low high =
 abbrev pub benchList : List ℕ
 benchList = listWithMaster 0x03 0x00
 
--- messages about processor 1 that ask for an answer, with a 29-byte answer buffer
+-- a message from a host's own channel, with these status words and a 29-byte answer buffer
+abbrev pub sent : ℕ → List ℕ → List ℕ → Call
+sent host bytes words =
+    message (record { channel = host; message = bytes; status = words; buffer = replicate 29 0 })
+
+-- messages about processor 1 that ask for an answer
 abbrev pub request : ℕ → Call
-request host = message host (0x00 ∷ 0xC0 ∷ host ∷ 0x07 ∷ 0x02 ∷ 0x00 ∷ 0x00 ∷ 0x00 ∷ 0x01 ∷ []) [] (replicate 29 0)
+request host = sent host (0x00 ∷ 0xC0 ∷ host ∷ 0x07 ∷ 0x02 ∷ 0x00 ∷ 0x00 ∷ 0x00 ∷ 0x01 ∷ []) []
 
 abbrev pub handover : ℕ → ℕ → Call
 handover host newHost =
-    message host (0x05 ∷ 0xC0 ∷ host ∷ 0x07 ∷ 0x02 ∷ 0x00 ∷ 0x00 ∷ 0x00 ∷ 0x01 ∷ newHost ∷ []) [] (replicate 29 0)
+    sent host (0x05 ∷ 0xC0 ∷ host ∷ 0x07 ∷ 0x02 ∷ 0x00 ∷ 0x00 ∷ 0x00 ∷ 0x01 ∷ newHost ∷ []) []
 
 abbrev pub setConfig : ℕ → ℕ → ℕ → Call
 setConfig host low clear =
-    message host
+    sent host
     ((0x00 ∷ 0xC1 ∷ host ∷ 0x07 ∷ 0x02 ∷ 0x00 ∷ 0x00 ∷ 0x00 ∷ 0x01 ∷ [])
     ++ u32Bytes low ++ u32Bytes 0 ++ u32Bytes 0 ++ u32Bytes clear)
     []
-    (replicate 29 0)
 
 -- waits 10, matches 2, delays 2 and 0, set-any 3, clear-all 0x10
 abbrev pub waitStatus : ℕ → List ℕ → Call
 waitStatus host words =
-    message host
+    sent host
     ((0x01 ∷ 0xC4 ∷ host ∷ 0x07 ∷ 0x02 ∷ 0x00 ∷ 0x00 ∷ 0x00 ∷ 0x01 ∷ 10 ∷ 2 ∷ 2 ∷ 0 ∷ [])
     ++ u32Bytes 0 ++ u32Bytes 3 ++ u32Bytes 0x10 ++ u32Bytes 0)
     words
-    (replicate 29 0)
 
 -- ---- what a call gives
 
--- a list call its verdict; a message call outcome, checks, microseconds, written bytes, and the record afterwards of the processor named
+-- an offer its verdict; a message outcome, checks, microseconds, written bytes, and the record afterwards of the processor named
 pub data Given : Type 0 where
   verdict : Verdict → Given
   answer : Outcome → ℕ → ℕ → List ℕ → Record → Given
@@ -64,10 +65,9 @@ unfoldable pub answerGiven : Answer → Record → Given
 answerGiven a r = answer (a .report .outcome) (a .report .checks) (a .report .micros) (a .bytes) r
 
 unfoldable pub givenIn : State → Call → Given
-givenIn s (list bytes) = verdict (verdictOf ours (s .listed) bytes)
-givenIn s (message channel bytes words buffer) =
-    answerGiven (answerTo ours s (queryOf channel bytes words buffer))
-    (recordOf ours (next ours s (message channel bytes words buffer)) (processorOf bytes))
+givenIn s (offer o) = verdict (verdictTo s o)
+givenIn s (message lent) =
+    answerGiven (answerTo s (queryOf lent)) (recordOf (next s (message lent)) (subjectOf (queryOf lent)))
 
 -- ---- the table
 
@@ -80,14 +80,14 @@ pub record Case : Type 0 where
 abbrev pub heldWith : ℕ → ℕ → Record
 heldWith controller low = record { controller = controller; low = low; high = 0; config = 0; control = 0 }
 
-abbrev pub listed : List Call
-listed = list benchList ∷ []
+abbrev pub loaded : List Call
+loaded = offer (list benchList) ∷ []
 
 abbrev pub heldBy3 : List Call
-heldBy3 = list benchList ∷ request 3 ∷ []
+heldBy3 = offer (list benchList) ∷ request 3 ∷ []
 
 abbrev pub heldBy5 : List Call
-heldBy5 = list benchList ∷ request 5 ∷ []
+heldBy5 = offer (list benchList) ∷ request 5 ∷ []
 
 abbrev pub header : ℕ → ℕ → ℕ → ℕ → List ℕ
 header low high host flags = low ∷ high ∷ host ∷ 0x07 ∷ flags ∷ 0x00 ∷ 0x00 ∷ 0x00 ∷ []
@@ -95,11 +95,11 @@ header low high host flags = low ∷ high ∷ host ∷ 0x07 ∷ flags ∷ 0x00 �
 unfoldable pub starred : List Case
 starred =
     -- that list is accepted; master 0A 01 (266) gives A7; a second list gives A1
-    record { earlier = []; call = list benchList; gives = verdict Accepted }
-    ∷ record { earlier = []; call = list (listWithMaster 0x0A 0x01); gives = verdict A7 }
-    ∷ record { earlier = listed; call = list benchList; gives = verdict A1 }
+    record { earlier = []; call = offer (list benchList); gives = verdict Accepted }
+    ∷ record { earlier = []; call = offer (list (listWithMaster 0x0A 0x01)); gives = verdict A7 }
+    ∷ record { earlier = loaded; call = offer (list benchList); gives = verdict A1 }
     -- host 3 requests 1; then host 5 gets N7, host 3 again OK
-    ∷ record { earlier = listed; call = request 3; gives = answer Ok 0 0 (header 0x00 0xC0 3 2) (heldWith 3 0) }
+    ∷ record { earlier = loaded; call = request 3; gives = answer Ok 0 0 (header 0x00 0xC0 3 2) (heldWith 3 0) }
     ∷ record { earlier = heldBy3; call = request 5; gives = answer N7 0 0 (header 0x00 0xC0 5 0) (heldWith 3 0) }
     ∷ record { earlier = heldBy3; call = request 3; gives = answer Ok 0 0 (header 0x00 0xC0 3 2) (heldWith 3 0) }
     -- if 5 held it first, 5 again N7, 3 takes it

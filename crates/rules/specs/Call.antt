@@ -1,61 +1,71 @@
--- The state, and the two calls: the list call and the message call. Assumes nothing.
+-- The calls: an offer, which is a list ("Access list"), and a message ("Messages"); what each is told, and the state that it leaves.
+-- Assumes nothing.
 use Prim.Native.Nat.{ℕ}
-use mathlib.Core.Bool.{Bool, true, false, cond}
+use mathlib.Core.Bool.{cond}
 use mathlib.Core.List.{List}
-use lib.ListN.{getD, set, replicate}
-use lib.Dec.{eqb}
-use Rattle.rules.specs.declared.Record.{Record}
+use lib.ListN.{length}
+use Rattle.rules.specs.declared.Report.{Report}
 use Rattle.rules.specs.declared.Verdict.{Verdict}
-use Rattle.rules.specs.Board.{Board, rows, rowOf}
-use Rattle.rules.specs.AccessList.{Entry, noEntry, noEntries, entriesOf, verdictOf, verdictNumber}
-use Rattle.rules.specs.Message.{Query, processorOf}
-use Rattle.rules.specs.Outcome.{View}
+use Rattle.rules.specs.AccessList.{entriesOf, verdictOf, accepted}
+use Rattle.rules.specs.Message.{Query, subjectOf}
 use Rattle.rules.specs.Effect.{recordAfter}
+use Rattle.rules.specs.Answer.{reportOf, answerOf}
+use Rattle.rules.specs.State.{aList, listed, State, viewOf, stored}
 
--- whether a list was accepted, and by row the entries and the records
-pub record State : Type 0 where
-  pub listed : Bool
-  pub entries : List Entry
-  pub records : List Record
+-- ---- offers
 
--- free and zero
-unfoldable pub freeRecord : Record
-freeRecord = record { controller = 0; low = 0; high = 0; config = 0; control = 0 }
+-- what can set the state up: a list, with its bytes
+pub data Offer : Type 0 where
+  list : List ℕ → Offer
 
--- all start free and zero, and no list is accepted
-unfoldable pub fresh : Board → State
-fresh b = record { listed = false; entries = noEntries b; records = replicate (rows b) freeRecord }
+unfoldable pub verdictTo : State → Offer → Verdict
+verdictTo s (list bytes) = verdictOf (s .setup .board) (listed (s .setup .source)) bytes
 
-unfoldable pub entryOf : Board → State → ℕ → Entry
-entryOf b s p = getD (s .entries) (rowOf b p) noEntry
+-- what an accepted offer sets: a list's entries are in force, and the records stay
+unfoldable pub taken : State → Offer → State
+taken s (list bytes) =
+    record {
+      setup = record { board = s .setup .board; source = aList bytes; entries = entriesOf (s .setup .board) bytes };
+      records = s .records;
+    }
 
-unfoldable pub recordOf : Board → State → ℕ → Record
-recordOf b s p = getD (s .records) (rowOf b p) freeRecord
+-- a refused offer changes nothing
+unfoldable pub afterOffer : State → Offer → State
+afterOffer s o = cond (accepted (verdictTo s o)) (taken s o) s
 
--- what a message about processor p sees
-unfoldable pub viewOf : Board → State → ℕ → View
-viewOf b s p = record { listed = s .listed; entry = entryOf b s p; state = recordOf b s p }
-
--- ---- the list call
-
-unfoldable pub accepted : Verdict → Bool
-accepted v = eqb (verdictNumber v) 0
-
--- an accepted list's entries are in force; a refused list changes nothing
-unfoldable pub afterList : Board → State → List ℕ → State
-afterList b s list =
-    cond (accepted (verdictOf b (s .listed) list))
-    (record { listed = true; entries = entriesOf b list; records = s .records })
-    s
-
--- ---- the message call
+-- ---- messages
 
 -- the record of the processor named is what the rules leave there, and nothing else changes
-unfoldable pub afterMessage : Board → State → Query → State
-afterMessage b s q =
-    record {
-      listed = s .listed;
-      entries = s .entries;
-      records =
-          set (s .records) (rowOf b (processorOf (q .message))) (recordAfter b (viewOf b s (processorOf (q .message))) q);
-    }
+unfoldable pub afterMessage : State → Query → State
+afterMessage s q = stored s (subjectOf q) (recordAfter (viewOf s (subjectOf q)) q)
+
+-- what a message is answered: all that the call reports, and the bytes it writes
+pub record Answer : Type 0 where
+  pub report : Report
+  pub bytes : List ℕ
+
+unfoldable pub answerTo : State → Query → Answer
+answerTo s q =
+    record { report = reportOf (viewOf s (subjectOf q)) q; bytes = answerOf (viewOf s (subjectOf q)) q }
+
+-- ---- either
+
+-- what a message call is lent: channel host, message, status words and the answer buffer with what it holds
+pub record Lent : Type 0 where
+  pub channel : ℕ
+  pub message : List ℕ
+  pub status : List ℕ
+  pub buffer : List ℕ
+
+-- of the buffer only its length counts
+abbrev pub queryOf : Lent → Query
+queryOf lent =
+    record { channel = lent .channel; message = lent .message; status = lent .status; room = length (lent .buffer) }
+
+pub data Call : Type 0 where
+  offer : Offer → Call
+  message : Lent → Call
+
+unfoldable pub next : State → Call → State
+next s (offer o) = afterOffer s o
+next s (message lent) = afterMessage s (queryOf lent)

@@ -5,7 +5,6 @@ use mathlib.Core.List.{List}
 use Rattle.rules.specs.declared.Kind.{Kind}
 use Rattle.rules.specs.declared.Kind.the-variants.{Request, Release, Handover, SetConfig, SetControl, AuthBoot, GetStatus, WaitStatus, Other}
 use Rattle.rules.specs.declared.Record.{Record}
-use Rattle.rules.specs.Board.{Board}
 use Rattle.rules.specs.Message.{Query, kindIn, newHostOf, vectorLowOf, vectorHighOf, configSetOf, configClearOf, controlSetOf, controlClearOf}
 use Rattle.rules.specs.Flags.{keepsVector, newWord}
 use Rattle.rules.specs.Outcome.{View, outcomeOf, carriedOut}
@@ -37,18 +36,17 @@ withControl m r =
     }
 
 -- request: the sender controls; release: free, other fields kept; handover: the new host controls. Get status and wait change nothing
-abbrev pub effectOf : Kind → ℕ → List ℕ → Record → Record
-effectOf Request sender m r = heldBy sender r
-effectOf Release sender m r = heldBy 0 r
-effectOf Handover sender m r = heldBy (newHostOf m) r
-effectOf SetConfig sender m r = withConfig m r
-effectOf SetControl sender m r = withControl m r
-effectOf AuthBoot sender m r = r
-effectOf GetStatus sender m r = r
-effectOf WaitStatus sender m r = r
-effectOf Other sender m r = r
+abbrev pub effectOf : Kind → Query → Record → Record
+effectOf Request q r = heldBy (q .channel) r
+effectOf Release q r = heldBy 0 r
+effectOf Handover q r = heldBy (newHostOf (q .message)) r
+effectOf SetConfig q r = withConfig (q .message) r
+effectOf SetControl q r = withControl (q .message) r
+effectOf AuthBoot q r = r
+effectOf GetStatus q r = r
+effectOf WaitStatus q r = r
+effectOf Other q r = r
 
 -- the record of the processor named, after the call
-unfoldable pub recordAfter : Board → View → Query → Record
-recordAfter b v q =
-    cond (carriedOut (outcomeOf b v q)) (effectOf (kindIn (q .message)) (q .channel) (q .message) (v .state)) (v .state)
+unfoldable pub recordAfter : View → Query → Record
+recordAfter v q = cond (carriedOut (outcomeOf v q)) (effectOf (kindIn (q .message)) q (v .state)) (v .state)

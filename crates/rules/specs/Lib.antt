@@ -9,6 +9,7 @@ pub mod Wait
 pub mod Outcome
 pub mod Effect
 pub mod Answer
+pub mod State
 pub mod Call
 pub mod Sequence
 pub mod Bench

@@ -101,17 +101,6 @@ waitIn m =
       anyclear = u32At m 25;
     }
 
--- ---- which processor a message is about
-
--- the types that have a processor field: all but authenticated boot
-unfoldable pub namesProcessor : Kind → Bool
-namesProcessor k = not (isKind k AuthBoot || isKind k Other)
-
--- "about", 01's term: the processor that the message's field names. One too short for that field, of another type, or for
--- authenticated boot is about none
-unfoldable pub isAbout : List ℕ → ℕ → Bool
-isAbout m p = namesProcessor (kindIn m) && leb 9 (length m) && eqb (processorOf m) p
-
 -- ---- what a message call gets
 
 -- the sender's channel host, the message, the lent status words, the first being the status now, and the "answer room", 01's term: the
@@ -121,3 +110,18 @@ pub record Query : Type 0 where
   pub message : List ℕ
   pub status : List ℕ
   pub room : ℕ
+
+-- ---- which processor a message is about
+
+-- the types that have a processor field: all but authenticated boot
+unfoldable pub namesProcessor : Kind → Bool
+namesProcessor k = not (isKind k AuthBoot || isKind k Other)
+
+-- the processor whose record the call works on: the one that the message's field names
+unfoldable pub subjectOf : Query → ℕ
+subjectOf q = processorOf (q .message)
+
+-- "about", 01's term: the processor that the message's field names. One too short for that field, of another type, or for
+-- authenticated boot is about none
+unfoldable pub isAbout : Query → ℕ → Bool
+isAbout q p = namesProcessor (kindIn (q .message)) && leb 9 (length (q .message)) && eqb (subjectOf q) p

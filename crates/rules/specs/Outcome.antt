@@ -1,8 +1,8 @@
--- "Outcomes, in the order they are tested", with the rights of N7 and the operands of N8. What a call can see of the state is a `View`, so
--- that its type shows on what an outcome depends. Assumes nothing.
+-- "Outcomes, in the order they are tested", with "Right (N7)" and "Operands (N8)". What a call can see of the state is a `View` and what
+-- it is asked a `Query`, so that their types show on what an outcome depends. Assumes nothing.
 use Prim.Native.Nat.{ℕ}
 use mathlib.Core.Bool.{Bool, true, false, not, _&&_, _||_}
-use mathlib.Core.List.{List, [], _∷_}
+use mathlib.Core.List.{List, [], _∷_, _++_}
 use lib.ListN.{length}
 use lib.Dec.{eqb, ltb}
 use Rattle.rules.specs.declared.Kind.{Kind}
@@ -13,43 +13,48 @@ use Rattle.rules.specs.declared.Record.{Record}
 use Rattle.rules.specs.Table.{Line, _gives_, firstOf}
 use Rattle.rules.specs.Board.{Board, activeHost, onBoard, classOf, configWord, controlWord}
 use Rattle.rules.specs.AccessList.{Entry, isMaster, permitted}
-use Rattle.rules.specs.Message.{Query, hostOf, isKind, kindIn, sizeOf, processorOf, newHostOf, vectorLowOf, configSetOf, configClearOf, controlSetOf, controlClearOf, waitIn}
+use Rattle.rules.specs.Message.{Query, hostOf, isKind, kindIn, sizeOf, subjectOf, newHostOf, vectorLowOf, configSetOf, configClearOf, controlSetOf, controlClearOf, waitIn}
 use Rattle.rules.specs.Flags.{keepsVector, flagsGood, vectorGood}
 use Rattle.rules.specs.Wait.{waitGood, ranOut}
 
--- what a message call sees of the state: whether a list was accepted, and the entry and the record of the processor named
+-- what a message call sees of the state: the board, whether a list was accepted, and the entry and the record of the processor named
 pub record View : Type 0 where
+  pub board : Board
   pub listed : Bool
   pub entry : Entry
   pub state : Record
 
--- ---- the rows' tests
+-- ---- the rows' tests, R1 to N6
 
 -- R1
-abbrev pub roomTooSmall : ℕ → Bool
-roomTooSmall room = ltb room 29
+abbrev pub roomTooSmall : Query → Bool
+roomTooSmall q = ltb (q .room) 29
 
 -- R2
-abbrev pub lengthWrong : List ℕ → Bool
-lengthWrong m = ltb (length m) 8 || ltb 60 (length m)
+abbrev pub lengthWrong : Query → Bool
+lengthWrong q = ltb (length (q .message)) 8 || ltb 60 (length (q .message))
 
 -- N2: the channel host is not a board host, or 0, or unlike the header's host
-unfoldable pub senderWrong : Board → ℕ → List ℕ → Bool
-senderWrong b channel m = not (activeHost b channel) || not (eqb channel (hostOf m))
+unfoldable pub senderWrong : Board → Query → Bool
+senderWrong b q = not (activeHost b (q .channel)) || not (eqb (q .channel) (hostOf (q .message)))
 
 -- N3
 abbrev pub typeUnknown : Kind → Bool
 typeUnknown k = isKind k Other
 
 -- N4
-abbrev pub tooShort : Kind → List ℕ → Bool
-tooShort k m = ltb (length m) (sizeOf k)
+abbrev pub tooShort : Kind → Query → Bool
+tooShort k q = ltb (length (q .message)) (sizeOf k)
 
 -- N5: authenticated boot is not offered on this general-purpose part
 abbrev pub notOffered : Kind → Bool
 notOffered k = isKind k AuthBoot
 
--- ---- the right (N7), by the processor's entry and record
+-- N6
+abbrev pub offBoard : Board → Query → Bool
+offBoard b q = not (onBoard b (subjectOf q))
+
+-- ---- the right (N7)
 
 abbrev pub isFree : Record → Bool
 isFree r = eqb (r .controller) 0
@@ -61,18 +66,18 @@ isController r h = eqb (r .controller) h
 abbrev pub mayRequest : Board → Entry → Record → ℕ → Bool
 mayRequest b e r h = isFree r && permitted b e h || isMaster e h
 
-abbrev pub hasRight : Kind → Board → Entry → Record → ℕ → Bool
-hasRight Request b e r h = mayRequest b e r h
-hasRight Release b e r h = isController r h
-hasRight Handover b e r h = isController r h
-hasRight SetConfig b e r h = isController r h
-hasRight SetControl b e r h = isController r h
-hasRight AuthBoot b e r h = false
-hasRight GetStatus b e r h = permitted b e h
-hasRight WaitStatus b e r h = permitted b e h
-hasRight Other b e r h = false
+abbrev pub hasRight : Kind → View → Query → Bool
+hasRight Request v q = mayRequest (v .board) (v .entry) (v .state) (q .channel)
+hasRight Release v q = isController (v .state) (q .channel)
+hasRight Handover v q = isController (v .state) (q .channel)
+hasRight SetConfig v q = isController (v .state) (q .channel)
+hasRight SetControl v q = isController (v .state) (q .channel)
+hasRight AuthBoot v q = false
+hasRight GetStatus v q = permitted (v .board) (v .entry) (q .channel)
+hasRight WaitStatus v q = permitted (v .board) (v .entry) (q .channel)
+hasRight Other v q = false
 
--- ---- the operands (N8), by the processor's entry and class
+-- ---- the operands (N8)
 
 abbrev pub configGood : ℕ → List ℕ → Bool
 configGood class m =
@@ -82,48 +87,55 @@ configGood class m =
 abbrev pub controlGood : ℕ → List ℕ → Bool
 controlGood class m = flagsGood class controlWord (controlSetOf m) (controlClearOf m)
 
-abbrev pub operandsGood : Kind → Board → Entry → ℕ → List ℕ → Bool
-operandsGood Request b e class m = true
-operandsGood Release b e class m = true
-operandsGood Handover b e class m = permitted b e (newHostOf m)
-operandsGood SetConfig b e class m = configGood class m
-operandsGood SetControl b e class m = controlGood class m
-operandsGood AuthBoot b e class m = true
-operandsGood GetStatus b e class m = true
-operandsGood WaitStatus b e class m = waitGood (waitIn m)
-operandsGood Other b e class m = true
+abbrev pub operandsGood : Kind → View → Query → Bool
+operandsGood Request v q = true
+operandsGood Release v q = true
+operandsGood Handover v q = permitted (v .board) (v .entry) (newHostOf (q .message))
+operandsGood SetConfig v q = configGood (classOf (v .board) (subjectOf q)) (q .message)
+operandsGood SetControl v q = controlGood (classOf (v .board) (subjectOf q)) (q .message)
+operandsGood AuthBoot v q = true
+operandsGood GetStatus v q = true
+operandsGood WaitStatus v q = waitGood (waitIn (q .message))
+operandsGood Other v q = true
 
 -- ---- R3 and N9, by the message and the status words
 
 -- get status with no status word, or wait with fewer words than waits
-unfoldable pub wordsMissing : Kind → List ℕ → List ℕ → Bool
-wordsMissing k m words =
-    isKind k GetStatus && eqb (length words) 0 || isKind k WaitStatus && ltb (length words) (waitIn m .waits)
+unfoldable pub wordsMissing : Kind → Query → Bool
+wordsMissing k q =
+    isKind k GetStatus && eqb (length (q .status)) 0
+    || isKind k WaitStatus && ltb (length (q .status)) (waitIn (q .message) .waits)
 
 -- the wait ran out
-unfoldable pub waitFailed : Kind → List ℕ → List ℕ → Bool
-waitFailed k m words = isKind k WaitStatus && ranOut (waitIn m) words
+unfoldable pub waitFailed : Kind → Query → Bool
+waitFailed k q = isKind k WaitStatus && ranOut (waitIn (q .message)) (q .status)
 
 -- ---- the table
 
-unfoldable pub outcomeTable : Board → View → Query → Kind → List (Line Outcome)
-outcomeTable b v q k =
-    (roomTooSmall (q .room) gives R1)
-    ∷ (lengthWrong (q .message) gives R2)
+-- its rows R1 to N8, which say whether a message is admitted
+unfoldable pub admission : View → Query → Kind → List (Line Outcome)
+admission v q k =
+    (roomTooSmall q gives R1)
+    ∷ (lengthWrong q gives R2)
     ∷ (not (v .listed) gives N1)
-    ∷ (senderWrong b (q .channel) (q .message) gives N2)
+    ∷ (senderWrong (v .board) q gives N2)
     ∷ (typeUnknown k gives N3)
-    ∷ (tooShort k (q .message) gives N4)
+    ∷ (tooShort k q gives N4)
     ∷ (notOffered k gives N5)
-    ∷ (not (onBoard b (processorOf (q .message))) gives N6)
-    ∷ (not (hasRight k b (v .entry) (v .state) (q .channel)) gives N7)
-    ∷ (not (operandsGood k b (v .entry) (classOf b (processorOf (q .message))) (q .message)) gives N8)
-    ∷ (wordsMissing k (q .message) (q .status) gives R3)
-    ∷ (waitFailed k (q .message) (q .status) gives N9)
+    ∷ (offBoard (v .board) q gives N6)
+    ∷ (not (hasRight k v q) gives N7)
+    ∷ (not (operandsGood k v q) gives N8)
     ∷ []
 
-unfoldable pub outcomeOf : Board → View → Query → Outcome
-outcomeOf b v q = firstOf Ok (outcomeTable b v q (kindIn (q .message)))
+-- its rows R3 and N9, for a message that is admitted
+unfoldable pub byWords : Query → Kind → List (Line Outcome)
+byWords q k = (wordsMissing k q gives R3) ∷ (waitFailed k q gives N9) ∷ []
+
+unfoldable pub outcomeTable : View → Query → Kind → List (Line Outcome)
+outcomeTable v q k = admission v q k ++ byWords q k
+
+unfoldable pub outcomeOf : View → Query → Outcome
+outcomeOf v q = firstOf Ok (outcomeTable v q (kindIn (q .message)))
 
 -- document 01's number of an outcome: 0 for OK, k for Nk, 100 + k for Rk
 abbrev pub outcomeNumber : Outcome → ℕ

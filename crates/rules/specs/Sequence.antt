@@ -1,40 +1,40 @@
--- Sequences of calls, run from a state: what state they leave, and what the call after them is answered. Assumes nothing.
+-- Sequences of calls ("What demand 3 speaks of"): the state that they leave, and what holds of every such state. Assumes nothing.
 use Prim.Native.Nat.{ℕ}
+use mathlib.Core.Path.{_≡_}
+use mathlib.Core.Bool.{Bool, true, false, _||_}
 use mathlib.Core.List.{List, [], _∷_}
 use lib.ListN.{length}
-use Rattle.rules.specs.declared.Report.{Report}
-use Rattle.rules.specs.Board.{Board}
-use Rattle.rules.specs.Message.{Query, processorOf}
-use Rattle.rules.specs.Answer.{reportOf, answerOf}
-use Rattle.rules.specs.Call.{State, viewOf, afterList, afterMessage}
-
--- a list call with the list's bytes; a message call with channel host, message, status words and what the answer buffer holds
-pub data Call : Type 0 where
-  list : List ℕ → Call
-  message : ℕ → List ℕ → List ℕ → List ℕ → Call
-
--- the query of a message call: of the buffer only its length counts
-abbrev pub queryOf : ℕ → List ℕ → List ℕ → List ℕ → Query
-queryOf channel bytes words buffer =
-    record { channel = channel; message = bytes; status = words; room = length buffer }
-
-unfoldable pub next : Board → State → Call → State
-next b s (list bytes) = afterList b s bytes
-next b s (message channel bytes words buffer) = afterMessage b s (queryOf channel bytes words buffer)
+use Rattle.rules.specs.declared.Record.{Record}
+use Rattle.rules.specs.Board.{rows}
+use Rattle.rules.specs.AccessList.{permitted, entriesOf, verdictOf, accepted}
+use Rattle.rules.specs.Outcome.{isFree}
+use Rattle.rules.specs.State.{listed, listIn, Setup, State, fresh, entryOf, recordOf}
+use Rattle.rules.specs.Call.{Call, next}
 
 -- the state after a sequence
-unfoldable pub run : Board → State → List Call → State
-run b s [] = s
-run b s (c ∷ cs) = run b (next b s c) cs
+unfoldable pub run : State → List Call → State
+run s [] = s
+run s (c ∷ cs) = run (next s c) cs
 
--- what a message is answered: all that the call reports, and the bytes it writes
-pub record Answer : Type 0 where
-  pub report : Report
-  pub bytes : List ℕ
+-- host h is permitted for processor p
+unfoldable pub permittedFor : Setup → ℕ → ℕ → Bool
+permittedFor setup p h = permitted (setup .board) (entryOf setup p) h
 
-unfoldable pub answerTo : Board → State → Query → Answer
-answerTo b s q =
-    record {
-      report = reportOf b (viewOf b s (processorOf (q .message))) q;
-      bytes = answerOf b (viewOf b s (processorOf (q .message))) q;
-    }
+-- processor p, with this record, is free or held by a host that is permitted for it
+unfoldable pub freeOrPermitted : Setup → ℕ → Record → Bool
+freeOrPermitted setup p r = isFree r || permittedFor setup p (r .controller)
+
+-- the invariant of every state that calls left, whatever the calls
+pub record Sound (s : State) : Type 0 where
+  -- there is a record for each processor
+  pub rows-there : length (s .records) ≡ rows (s .setup .board)
+  -- with no list accepted the state is fresh
+  pub none-fresh : listed (s .setup .source) ≡ false → s ≡ fresh (s .setup .board)
+  -- a list that is in force is one that the table accepts
+  pub list-good :
+      listed (s .setup .source) ≡ true → accepted (verdictOf (s .setup .board) false (listIn (s .setup .source))) ≡ true
+  -- and the entries are its entries
+  pub entries-its :
+      listed (s .setup .source) ≡ true → s .setup .entries ≡ entriesOf (s .setup .board) (listIn (s .setup .source))
+  -- each processor is free or held by a permitted host
+  pub holder-permitted : (p : ℕ) → freeOrPermitted (s .setup) p (recordOf s p) ≡ true

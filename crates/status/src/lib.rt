@@ -6,14 +6,21 @@ ghost use Prim.Native.Nat.{suc, _<_};
 ghost use Rattle.rules.specs.Wait.{wordMatches, endingCheck};
 use rules::Wait;
 
-// Whether a status word matches.
+// Whether a status word matches. Most words of a long wait fail the first test, so each returns at
+// once.
 pub fn word_matches(w: Wait, word: u32) -> bool
     ensures { λ r. ⌜ r ≡ wordMatches w word ⌝ }
 {
-    ((word & w.allset) == w.allset)
-        & ((w.anyset == 0) | ((word & w.anyset) != 0))
-        & ((word & w.allclear) == 0)
-        & ((w.anyclear == 0) | ((word & w.anyclear) != w.anyclear))
+    if (word & w.allset) != w.allset {
+        return false;
+    }
+    if (word & w.allclear) != 0 {
+        return false;
+    }
+    if (w.anyset != 0) & ((word & w.anyset) == 0) {
+        return false;
+    }
+    (w.anyclear == 0) | ((word & w.anyclear) != w.anyclear)
 }
 
 // The run of matching words after one more check: one longer, or broken.

@@ -12,8 +12,8 @@ fn wide(byte: u8) -> u32
     byte as u32
 }
 
-// The number that four bytes say, lowest first.
-fn joined(a: u8, b: u8, c: u8, d: u8) -> u32
+// The number that four bytes say, lowest first. From four bytes in a row it becomes one load.
+pub fn joined(a: u8, b: u8, c: u8, d: u8) -> u32
     ensures { λ r. ⌜ r ≡ a + 256 * b + 65536 * c + 16777216 * d ⌝ }
 {
     wide(a) + 256 * wide(b) + 65536 * wide(c) + 16777216 * wide(d)

@@ -1,7 +1,7 @@
 -- `lines::append_number` meets its contract: one digit, or as many as there are. Assumes nothing.
 use native.Mathlib.Omega.{arith}
 use lib.ListN.{length-set}
-use Rattle.lines.proofs.Laid.{laid-digit}
+use Rattle.lines.proofs.Digits.{laid-digit}
 use borrow.Author.Needs.{needs}
 use Rattle.lines.proofs.append_number.Statement.{statement}
 use Rattle.lines.proofs.append_number.Tie as tie

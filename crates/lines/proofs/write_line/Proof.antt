@@ -9,7 +9,8 @@ use lib.ListN.{length, length-append}
 use lib.Dec.{eqb, ltb}
 use denote.Ref.{now}
 use Rattle.lines.specs.Lines.{outcomeName, decimalOf, answerText}
-use Rattle.lines.proofs.Laid.{laid-both, number-short, answer-short}
+use Rattle.lines.proofs.Digits.{number-short}
+use Rattle.lines.proofs.Laid.{laid-both, answer-short}
 use borrow.Author.Needs.{needs}
 use Rattle.lines.proofs.write_line.Statement.{statement}
 use Rattle.lines.proofs.write_line.Tie as tie

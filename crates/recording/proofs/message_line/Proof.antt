@@ -25,12 +25,12 @@ message-requires c κs = search needs
 
 array-share-prefix-answer : tie.Need-array-share-prefix-answer
 array-share-prefix-answer c =
-    let few = written-few _ _ _ _ _ _ _ _ (c .before .before .message .result) (c .before .before .message .ensures) in
+    let few = written-few _ _ _ _ _ (c .before .before .message .result) (c .before .before .message .ensures) in
     omega (arith, c .before .before .message .kept .1 .1 .1 .1 .1 .0)
 
 slice-aggregate-print-message : tie.Need-slice-aggregate-print-message
 slice-aggregate-print-message c =
-    let few = written-few _ _ _ _ _ _ _ _ (c .before .before .before .message .result) (c .before .before .before .message .ensures) in
+    let few = written-few _ _ _ _ _ (c .before .before .before .message .result) (c .before .before .before .message .ensures) in
     sym (length-take-le (c .before .before .before .message .result .written) _ (omega (arith, c .before .before .before .message .kept .1 .1 .1 .1 .1 .0)))
 
 print-message-requires : tie.Need-print-message-requires

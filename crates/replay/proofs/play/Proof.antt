@@ -15,7 +15,8 @@ use Rattle.fields.proofs.Found.{the-type}
 use Rattle.fields.specs.declared.Found.{Found}
 use Rattle.fields.specs.declared.Found.the-variants.{Whole, Bad, Partial, Nothing}
 use Rattle.fields.specs.Fields.{foundAt}
-use Rattle.replay.specs.Session.{memories, Reached, start, isBad, waits}
+use Rattle.session.specs.Ends.{isBad}
+use Rattle.replay.specs.Session.{memories, Reached, start, waits}
 use Rattle.replay.proofs.Session.{reached-same, reached-next, rest-long}
 use Rattle.fields.proofs.Finds.{whole-ends}
 use borrow.Author.Needs.{needs}

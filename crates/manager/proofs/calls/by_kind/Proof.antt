@@ -1,96 +1,214 @@
--- `calls::by_kind` meets its contract: each test is a row of the table from N3 on. Assumes nothing.
-use mathlib.Core.Path.{sym, _∙_}
-use borrow.Author.Tests.{lt-ltb, le-ltb, eq-eqb, ne-eqb}
+-- `calls::by_kind` meets its contract: each arm is what the function of its type decides and leaves. Assumes nothing.
+use mathlib.Core.Path.{refl, subst⁻¹}
 use denote.Ref.{now}
-use Rattle.manager.specs.Decision.{viewWith, asked}
-use Rattle.manager.proofs.Decisions.{kind-N3, kind-N4, kind-N5, kind-N6, kind-rule, row-off, row-on, told}
+use Rattle.rules.specs.declared.Kind.the-variants.{Request, Release, Handover, SetConfig, SetControl}
+use Rattle.manager.specs.Decision.{DecidesKind}
+use Rattle.replies.proofs.Answers.{told-kind}
+use Rattle.manager.proofs.Tables.{carried, booted, status-read, status-awaited, unknown}
 use borrow.Author.Needs.{needs}
 use Rattle.manager.proofs.calls.by_kind.Statement.{statement}
 use Rattle.manager.proofs.calls.by_kind.Tie as tie
 
-type-number-requires : tie.Need-type-number-requires
-type-number-requires c κs = search needs
+u16-at-requires : tie.Need-u16-at-requires
+u16-at-requires c κs = search needs
 
-refused-requires : tie.Need-refused-requires
-refused-requires c κs = search needs
+kind-of-requires : tie.Need-kind-of-requires
+kind-of-requires c κs = search needs
+
+enum-told : tie.Need-enum-told
+enum-told c = search needs
+
+request-requires : tie.Need-request-requires
+request-requires c κs = search needs
+
+unwaited-requires : tie.Need-unwaited-requires
+unwaited-requires c κs = search needs
+
+enum-told-2 : tie.Need-enum-told-2
+enum-told-2 c = search needs
+
+release-requires : tie.Need-release-requires
+release-requires c κs = search needs
+
+unwaited-requires-2 : tie.Need-unwaited-requires-2
+unwaited-requires-2 c κs = search needs
+
+enum-told-3 : tie.Need-enum-told-3
+enum-told-3 c = search needs
+
+handover-requires : tie.Need-handover-requires
+handover-requires c κs = search needs
+
+unwaited-requires-3 : tie.Need-unwaited-requires-3
+unwaited-requires-3 c κs = search needs
+
+enum-told-4 : tie.Need-enum-told-4
+enum-told-4 c = search needs
+
+set-config-requires : tie.Need-set-config-requires
+set-config-requires c κs = search needs
+
+unwaited-requires-4 : tie.Need-unwaited-requires-4
+unwaited-requires-4 c κs = search needs
+
+enum-told-5 : tie.Need-enum-told-5
+enum-told-5 c = search needs
+
+set-control-requires : tie.Need-set-control-requires
+set-control-requires c κs = search needs
+
+unwaited-requires-5 : tie.Need-unwaited-requires-5
+unwaited-requires-5 c κs = search needs
+
+enum-told-6 : tie.Need-enum-told-6
+enum-told-6 c = search needs
+
+authenticated-boot-requires : tie.Need-authenticated-boot-requires
+authenticated-boot-requires c κs = search needs
+
+unwaited-requires-6 : tie.Need-unwaited-requires-6
+unwaited-requires-6 c κs = search needs
+
+enum-told-7 : tie.Need-enum-told-7
+enum-told-7 c = search needs
+
+get-status-requires : tie.Need-get-status-requires
+get-status-requires c κs = search needs
+
+unwaited-requires-7 : tie.Need-unwaited-requires-7
+unwaited-requires-7 c κs = search needs
+
+enum-told-8 : tie.Need-enum-told-8
+enum-told-8 c = search needs
+
+wait-status-requires : tie.Need-wait-status-requires
+wait-status-requires c κs = search needs
+
+enum-told-9 : tie.Need-enum-told-9
+enum-told-9 c = search needs
+
+unwaited-requires-8 : tie.Need-unwaited-requires-8
+unwaited-requires-8 c κs = search needs
+
+same-length : tie.Need-same-length
+same-length c = search needs
 
 returns : tie.Need-returns
 returns c =
-    let a = c .before .before .before .before .before .before .args in
-    let v = viewWith (now (a .access)) (a .row) (a .state) in
-    let q = asked (a .channel) (now (a .message)) (now (a .status)) (a .room) in
-    let unknown = eq-eqb _ 0 (told (c .before .before .type-number .ensures) (c .before .if1 .taken)) in
-    c .refused .ensures ∙ sym (kind-N3 (a .kind) v q unknown)
+    let a = c .before .before .before .before .before .before .before .before .before .before .before .before .before .args in
+    let is = told-kind (now (a .message)) (c .before .before .before .before .before .before .before .kind-of .ensures) (c .before .before .before .before .before .before .before .before .u16-at .ensures) (c .before .before .before .before .before .enum-told .given .1) in
+    subst⁻¹ (DecidesKind (now (a .access)) (now (a .records)) _ _) (c .unwaited .ensures)
+    (carried (now (a .access)) (now (a .records)) (a .channel) (now (a .message)) (now (a .status)) Request _ _ is refl refl refl (c .before .before .before .request .ensures))
 
-size-of-requires : tie.Need-size-of-requires
-size-of-requires c κs = search needs
-
-refused-requires-2 : tie.Need-refused-requires-2
-refused-requires-2 c κs = search needs
+same-length-2 : tie.Need-same-length-2
+same-length-2 c = search needs
 
 returns-2 : tie.Need-returns-2
 returns-2 c =
-    let a = c .before .before .before .before .before .before .before .before .args in
-    let v = viewWith (now (a .access)) (a .row) (a .state) in
-    let q = asked (a .channel) (now (a .message)) (now (a .status)) (a .room) in
-    let known = ne-eqb _ 0 (λ e. c .before .before .before .if1 .left (c .before .before .before .before .type-number .ensures ∙ e)) in
-    let short = lt-ltb _ _ (rw (c .before .before .size-of .ensures) at (c .before .if2 .taken)) in
-    c .refused2 .ensures ∙ sym (kind-N4 (a .kind) v q known short)
+    let a = c .before .before .before .before .before .before .before .before .before .before .before .before .before .args in
+    let is = told-kind (now (a .message)) (c .before .before .before .before .before .before .before .kind-of .ensures) (c .before .before .before .before .before .before .before .before .u16-at .ensures) (c .before .before .before .before .before .enum-told2 .given .1) in
+    subst⁻¹ (DecidesKind (now (a .access)) (now (a .records)) _ _) (c .unwaited2 .ensures)
+    (carried (now (a .access)) (now (a .records)) (a .channel) (now (a .message)) (now (a .status)) Release _ _ is refl refl refl (c .before .before .before .release .ensures (now (a .access))))
 
-refused-requires-3 : tie.Need-refused-requires-3
-refused-requires-3 c κs = search needs
+same-length-3 : tie.Need-same-length-3
+same-length-3 c = search needs
 
 returns-3 : tie.Need-returns-3
 returns-3 c =
-    let a = c .before .before .before .before .before .before .before .before .before .args in
-    let v = viewWith (now (a .access)) (a .row) (a .state) in
-    let q = asked (a .channel) (now (a .message)) (now (a .status)) (a .room) in
-    let known = ne-eqb _ 0 (λ e. c .before .before .before .before .if1 .left (c .before .before .before .before .before .type-number .ensures ∙ e)) in
-    let whole = le-ltb _ _ (rw (c .before .before .before .size-of .ensures) at (c .before .before .if2 .left)) in
-    let auth = eq-eqb _ 0xC120 (told (c .before .before .before .before .before .type-number .ensures) (c .before .if3 .taken)) in
-    c .refused3 .ensures ∙ sym (kind-N5 (a .kind) v q known whole auth)
+    let a = c .before .before .before .before .before .before .before .before .before .before .before .before .before .args in
+    let is = told-kind (now (a .message)) (c .before .before .before .before .before .before .before .kind-of .ensures) (c .before .before .before .before .before .before .before .before .u16-at .ensures) (c .before .before .before .before .before .enum-told3 .given .1) in
+    subst⁻¹ (DecidesKind (now (a .access)) (now (a .records)) _ _) (c .unwaited3 .ensures)
+    (carried (now (a .access)) (now (a .records)) (a .channel) (now (a .message)) (now (a .status)) Handover _ _ is refl refl refl (c .before .before .before .handover .ensures))
 
-refused-requires-4 : tie.Need-refused-requires-4
-refused-requires-4 c κs = search needs
+same-length-4 : tie.Need-same-length-4
+same-length-4 c = search needs
 
 returns-4 : tie.Need-returns-4
 returns-4 c =
-    let a = c .before .before .before .before .before .before .before .before .before .before .args in
-    let v = viewWith (now (a .access)) (a .row) (a .state) in
-    let q = asked (a .channel) (now (a .message)) (now (a .status)) (a .room) in
-    let known = ne-eqb _ 0 (λ e. c .before .before .before .before .before .if1 .left (c .before .before .before .before .before .before .type-number .ensures ∙ e)) in
-    let whole = le-ltb _ _ (rw (c .before .before .before .before .size-of .ensures) at (c .before .before .before .if2 .left)) in
-    let offered = ne-eqb _ 0xC120 (λ e. c .before .before .if3 .left (c .before .before .before .before .before .before .type-number .ensures ∙ e)) in
-    let off = row-off _ (rw (c .before .before .before .before .before .before .before .before .before .before .pre) at (c .before .if4 .taken)) in
-    c .refused4 .ensures ∙ sym (kind-N6 (a .kind) v q known whole offered off)
+    let a = c .before .before .before .before .before .before .before .before .before .before .before .before .before .args in
+    let is = told-kind (now (a .message)) (c .before .before .before .before .before .before .before .kind-of .ensures) (c .before .before .before .before .before .before .before .before .u16-at .ensures) (c .before .before .before .before .before .enum-told4 .given .1) in
+    subst⁻¹ (DecidesKind (now (a .access)) (now (a .records)) _ _) (c .unwaited4 .ensures)
+    (carried (now (a .access)) (now (a .records)) (a .channel) (now (a .message)) (now (a .status)) SetConfig _ _ is refl refl refl (c .before .before .before .set-config .ensures (now (a .access))))
 
-by-rule-requires : tie.Need-by-rule-requires
-by-rule-requires c κs = search needs
+same-length-5 : tie.Need-same-length-5
+same-length-5 c = search needs
 
 returns-5 : tie.Need-returns-5
 returns-5 c =
+    let a = c .before .before .before .before .before .before .before .before .before .before .before .before .before .args in
+    let is = told-kind (now (a .message)) (c .before .before .before .before .before .before .before .kind-of .ensures) (c .before .before .before .before .before .before .before .before .u16-at .ensures) (c .before .before .before .before .before .enum-told5 .given .1) in
+    subst⁻¹ (DecidesKind (now (a .access)) (now (a .records)) _ _) (c .unwaited5 .ensures)
+    (carried (now (a .access)) (now (a .records)) (a .channel) (now (a .message)) (now (a .status)) SetControl _ _ is refl refl refl (c .before .before .before .set-control .ensures (now (a .access))))
+
+returns-6 : tie.Need-returns-6
+returns-6 c =
     let a = c .before .before .before .before .before .before .before .before .before .before .args in
-    let v = viewWith (now (a .access)) (a .row) (a .state) in
-    let q = asked (a .channel) (now (a .message)) (now (a .status)) (a .room) in
-    let known = ne-eqb _ 0 (λ e. c .before .before .before .before .before .if1 .left (c .before .before .before .before .before .before .type-number .ensures ∙ e)) in
-    let whole = le-ltb _ _ (rw (c .before .before .before .before .size-of .ensures) at (c .before .before .before .if2 .left)) in
-    let offered = ne-eqb _ 0xC120 (λ e. c .before .before .if3 .left (c .before .before .before .before .before .before .type-number .ensures ∙ e)) in
-    let on = row-on _ (rw (c .before .before .before .before .before .before .before .before .before .before .pre) at (c .before .if4 .left)) in
-    c .by-rule .ensures ∙ sym (kind-rule (a .kind) v q known whole offered on)
+    let is = told-kind (now (a .message)) (c .before .before .before .before .kind-of .ensures) (c .before .before .before .before .before .u16-at .ensures) (c .before .before .enum-told6 .given .1) in
+    subst⁻¹ (DecidesKind (now (a .access)) (now (a .records)) _ _) (c .unwaited6 .ensures)
+    (booted (now (a .access)) (now (a .records)) (a .channel) (now (a .message)) (now (a .status)) _ is (c .before .authenticated-boot .ensures))
+
+returns-7 : tie.Need-returns-7
+returns-7 c =
+    let a = c .before .before .before .before .before .before .before .before .before .before .args in
+    let is = told-kind (now (a .message)) (c .before .before .before .before .kind-of .ensures) (c .before .before .before .before .before .u16-at .ensures) (c .before .before .enum-told7 .given .1) in
+    subst⁻¹ (DecidesKind (now (a .access)) (now (a .records)) _ _) (c .unwaited7 .ensures)
+    (status-read (now (a .access)) (now (a .records)) (a .channel) (now (a .message)) (now (a .status)) _ is (c .before .get-status .ensures))
+
+returns-8 : tie.Need-returns-8
+returns-8 c =
+    let a = c .before .before .before .before .before .before .before .before .before .args in
+    let is = told-kind (now (a .message)) (c .before .before .before .kind-of .ensures) (c .before .before .before .before .u16-at .ensures) (c .before .enum-told8 .given .1) in
+    status-awaited (now (a .access)) (now (a .records)) (a .channel) (now (a .message)) (now (a .status)) _ is (c .wait-status .ensures)
+
+returns-9 : tie.Need-returns-9
+returns-9 c =
+    let a = c .before .before .before .before .before .before .before .before .before .args in
+    let is = told-kind (now (a .message)) (c .before .before .before .kind-of .ensures) (c .before .before .before .before .u16-at .ensures) (c .before .enum-told9 .given .1) in
+    subst⁻¹ (DecidesKind (now (a .access)) (now (a .records)) _ _) (c .unwaited8 .ensures)
+    (unknown (now (a .access)) (now (a .records)) (a .channel) (now (a .message)) (now (a .status)) is)
 
 pub by-kind-spec : {M : Type 1} → statement M
 by-kind-spec =
     tie.close
     (tie.spec
-    type-number-requires
-    refused-requires
+    u16-at-requires
+    kind-of-requires
+    enum-told
+    request-requires
+    unwaited-requires
+    enum-told-2
+    release-requires
+    unwaited-requires-2
+    enum-told-3
+    handover-requires
+    unwaited-requires-3
+    enum-told-4
+    set-config-requires
+    unwaited-requires-4
+    enum-told-5
+    set-control-requires
+    unwaited-requires-5
+    enum-told-6
+    authenticated-boot-requires
+    unwaited-requires-6
+    enum-told-7
+    get-status-requires
+    unwaited-requires-7
+    enum-told-8
+    wait-status-requires
+    enum-told-9
+    unwaited-requires-8
+    same-length
     returns
-    size-of-requires
-    refused-requires-2
+    same-length-2
     returns-2
-    refused-requires-3
+    same-length-3
     returns-3
-    refused-requires-4
+    same-length-4
     returns-4
-    by-rule-requires
-    returns-5)
+    same-length-5
+    returns-5
+    returns-6
+    returns-7
+    returns-8
+    returns-9)

@@ -1,0 +1,72 @@
+// Set config and set control: the boot vector and the flags of a processor; and authenticated boot.
+// Each function tests the rows of document 01's outcome table from N4 on, in its order; the rows above
+// are passed when it is called. OK changes the record in the lent memory, and a refusal leaves it.
+ghost use mathlib.Core.List.{[]};
+ghost use Rattle.rules.specs.declared.Kind.the-variants.{SetConfig, SetControl};
+ghost use Rattle.operations.specs.Operation.{asked, CarriesByController, RefusesBoot};
+use board::ROWS;
+use board::class_at;
+use operations::row_in;
+use records::load;
+use records::store;
+use records::with_config;
+use records::with_control;
+use rights::config_good;
+use rights::control_good;
+use rights::is_controller;
+use rules::Outcome;
+
+// Set config: the sender is the controller, and flags and vector may be set. The config word is
+// changed, and the vector stored unless bit 28 is named.
+pub fn set_config(records: &mut [u32], channel: u8, message: &[u8]) -> Outcome
+    ensures { λ r. ⌜ CarriesByController SetConfig (now (records .entry)) (asked channel (now (message .entry)) []) (now (records .exit)) r ⌝ }
+{
+    if message.len() < 25 {
+        return Outcome::N4;
+    }
+    let row = row_in(message);
+    if ROWS <= row {
+        return Outcome::N6;
+    }
+    let state = load(records, row);
+    if !is_controller(state, channel) {
+        return Outcome::N7;
+    }
+    if !config_good(class_at(row), message) {
+        return Outcome::N8;
+    }
+    store(records, row, with_config(message, state));
+    Outcome::Ok
+}
+
+// Set control: the sender is the controller, and the flags may be set. The control word is changed.
+pub fn set_control(records: &mut [u32], channel: u8, message: &[u8]) -> Outcome
+    ensures { λ r. ⌜ CarriesByController SetControl (now (records .entry)) (asked channel (now (message .entry)) []) (now (records .exit)) r ⌝ }
+{
+    if message.len() < 17 {
+        return Outcome::N4;
+    }
+    let row = row_in(message);
+    if ROWS <= row {
+        return Outcome::N6;
+    }
+    let state = load(records, row);
+    if !is_controller(state, channel) {
+        return Outcome::N7;
+    }
+    if !control_good(class_at(row), message) {
+        return Outcome::N8;
+    }
+    store(records, row, with_control(message, state));
+    Outcome::Ok
+}
+
+// Authenticated boot: not offered on this general-purpose part.
+pub fn authenticated_boot(message: &[u8]) -> Outcome
+    ensures { λ r. ⌜ RefusesBoot (now (message .entry)) r ⌝ }
+{
+    if message.len() < 16 {
+        return Outcome::N4;
+    }
+    Outcome::N5
+}

@@ -1,0 +1,107 @@
+-- The decimal digits of a number: how many there are, and how they are laid over a line from the last on. Assumes nothing.
+use Prim.Native.Nat.{ℕ, zero, suc, _+_, _-_, _/_, _%_, _^_, _≤_, _<_}
+use mathlib.Core.Path.{_≡_, refl, sym, ap, ap₂, _∙_}
+use mathlib.Core.List.{List, [], _∷_, _++_}
+use mathlib.Core.Logic.{⊎-elim}
+use native.Mathlib.Nat.{add-zero, mod-eq-of-lt, pow-suc}
+use native.Mathlib.Numerals.{add-one}
+use native.Mathlib.Omega.{arith}
+use lib.Dec.{ltb}
+use lib.ListN.{length, set, length-append}
+use borrow.Author.Tests.{lt-ltb, le-ltb, ltb-true}
+use Rattle.rules.proofs.Tests.{decide}
+use Rattle.lines.specs.Lines.{decimalIn, laid}
+use Rattle.lines.proofs.Laid.{laid-none, laid-more, laid-last}
+
+-- a digit taken off the end of a number that has more
+decimal-digit : (k n : ℕ) → 10 ≤ n → decimalIn (suc k) n ≡ decimalIn k (n / 10) ++ ((48 + n % 10) ∷ [])
+unfolding decimalIn
+decimal-digit k n h = rw (le-ltb n 10 h)
+
+-- a number of one digit
+pub decimal-last : (k n : ℕ) → n < 10 → decimalIn (suc k) n ≡ (48 + n) ∷ []
+unfolding decimalIn
+decimal-last k n h = rw (lt-ltb n 10 h)
+
+-- ---- how many there are
+
+-- no more digits than places
+pub length-decimal : (k n : ℕ) → length (decimalIn k n) ≤ k
+unfolding decimalIn
+length-decimal zero n = omega arith
+length-decimal (suc k) n =
+    ⊎-elim (λ t. rw t (omega arith))
+    (λ f.
+    rw f
+    (let ih = length-decimal k (n / 10) in omega (arith, length-append (decimalIn k (n / 10)) ((48 + n % 10) ∷ []))))
+    (decide (ltb n 10))
+
+-- a number and the space behind it take at most eleven bytes
+pub number-short : (n : ℕ) → length (decimalIn 10 n ++ (32 ∷ [])) ≤ 11
+number-short n = let few = length-decimal 10 n in omega (arith, length-append (decimalIn 10 n) (32 ∷ []))
+
+-- one place more than are needed changes nothing
+decimal-place : (k n : ℕ) → n < 10 ^ suc k → decimalIn (suc (suc k)) n ≡ decimalIn (suc k) n
+unfolding decimalIn
+decimal-place zero n h = rw (lt-ltb n 10 h)
+decimal-place (suc k) n h =
+    let wide = pow-suc 10 (suc k) in
+    ⊎-elim (λ t. rw t)
+    (λ f. rw f (ap (λ (l : List ℕ). l ++ ((48 + n % 10) ∷ [])) (decimal-place k (n / 10) (omega arith))))
+    (decide (ltb n 10))
+
+-- the digits of a number that has more than one: those of a tenth of it, and one more
+pub count-more : (n : ℕ) → n < 10 ^ 10 → 10 ≤ n → length (decimalIn 10 n) ≡ length (decimalIn 10 (n / 10)) + 1
+count-more n h more =
+    ap length (decimal-digit 9 n more ∙ ap (λ (l : List ℕ). l ++ ((48 + n % 10) ∷ [])) (sym (decimal-place 8 (n / 10) (omega arith))))
+    ∙ length-append (decimalIn 10 (n / 10)) ((48 + n % 10) ∷ [])
+
+-- ---- laid over a line, from the last on
+
+-- a number of one digit, and the space behind it
+pub laid-digit : (d : List ℕ) (at n : ℕ) → at + 2 ≤ length d → n < 10
+    → (at + 2 ≡ at + length (decimalIn 10 n ++ (32 ∷ [])))
+    × (set (set d at (48 + n)) (at + 1) 32 ≡ laid d at (decimalIn 10 n ++ (32 ∷ [])))
+laid-digit d at n fits small =
+    rw (decimal-last 9 n small) (
+      refl,
+      ap₂ (λ (l : List ℕ) (k : ℕ). set (set l k (48 + n)) (at + 1) 32) (laid-none d at) (sym (add-zero at))
+          ∙ ap (λ (l : List ℕ). set l (at + 1) 32) (laid-more d at [] (48 + n) (omega arith))
+          ∙ laid-more d at ((48 + n) ∷ []) 32 (omega arith),
+    )
+
+-- the last k digits of a number
+unfoldable pub lastDigits : ℕ → ℕ → List ℕ
+lastDigits zero n = []
+lastDigits (suc k) n = lastDigits k (n / 10) ++ ((48 + n % 10) ∷ [])
+
+length-last : (k n : ℕ) → length (lastDigits k n) ≡ k
+unfolding lastDigits
+length-last zero n = refl
+length-last (suc k) n = length-append (lastDigits k (n / 10)) ((48 + n % 10) ∷ []) ∙ (let ih = length-last k (n / 10) in omega arith)
+
+-- all digits of a number are its last ones, as many as there are
+pub last-all : (k n : ℕ) → lastDigits (length (decimalIn k n)) n ≡ decimalIn k n
+unfolding decimalIn lastDigits
+last-all zero n = refl
+last-all (suc k) n =
+    ⊎-elim (λ t. rw t (ap (λ (m : ℕ). (48 + m) ∷ []) (mod-eq-of-lt (ltb-true n 10 t))))
+    (λ f.
+    rw f
+    (ap (λ (m : ℕ). lastDigits m n) (length-append (decimalIn k (n / 10)) ((48 + n % 10) ∷ []) ∙ add-one _)
+    ∙ ap (λ (l : List ℕ). l ++ ((48 + n % 10) ∷ [])) (last-all k (n / 10))))
+    (decide (ltb n 10))
+
+-- one turn of the loop that lays digits: the others, laid over a line that has the last
+pub laid-lower : (d : List ℕ) (at i n : ℕ) → at < i → i ≤ length d
+    → laid (set d (i - 1) (48 + n % 10)) at (lastDigits (i - 1 - at) (n / 10)) ≡ laid d at (lastDigits (i - at) n)
+unfolding lastDigits
+laid-lower d at i n h fits =
+    let x = 48 + n % 10 in
+    let t = lastDigits (i - 1 - at) (n / 10) in
+    let size : length t ≡ i - 1 - at = length-last (i - 1 - at) (n / 10) in
+    let place : i - 1 ≡ at + length t = omega arith in
+    let count : suc (i - 1 - at) ≡ i - at = omega arith in
+    ap (λ (m : ℕ). laid (set d m x) at t) place
+    ∙ laid-last d at t x (omega arith)
+    ∙ ap (λ (m : ℕ). laid d at (lastDigits m n)) count

@@ -1,0 +1,229 @@
+-- Laws of the judge: what one entry comes to, what is left after it, and what an accepted list is. Assumes nothing.
+use Prim.Native.Nat.{ℕ, zero, suc, _+_, _*_, _-_, _<_, _≤_}
+use native.Mathlib.Nat.{add-zero, add-sub-cancel-left}
+use native.Mathlib.Numerals.{add-one}
+use native.Mathlib.Omega.{arith}
+use mathlib.Core.Path.{_≡_, refl, sym, ap, subst, _∙_}
+use mathlib.Core.Bool.{Bool, true, false, cond, not, _&&_, _||_, and-false}
+use mathlib.Core.List.{List, [], _∷_, map}
+use mathlib.Core.Logic.{⊎-elim}
+use types.Run.{OneOf}
+use lib.ListN.{length, getD, take, drop}
+use lib.Seq.{getD-take, getD-drop}
+use lib.Dec.{eqb}
+use borrow.Author.Tests.{le-ltb, lt-ltb, eqb-true, ne-eqb}
+use Rattle.rules.specs.declared.Verdict.{Verdict}
+use Rattle.rules.specs.declared.Verdict.the-variants.{Accepted, A1, A2, A3, A4, A5, A6, A7, A8}
+use Rattle.rules.specs.Table.{firstOf, anyOf}
+use Rattle.rules.specs.Bytes.{byteAt, u16At}
+use Rattle.rules.specs.Board.{ours, boardHost, activeHost, rows, rowOf, onBoard}
+use Rattle.rules.specs.AccessList.{partAt, partsFrom, processorIn, masterIn, secondariesIn, used, namedIn, badSecondary, entryTable, entriesTable, listTable, verdictOf, accepted}
+use Rattle.rules.proofs.Tests.{decide, firstOf-append}
+use Rattle.lists.specs.Judged.{partsBefore, faultOf, badFrom, verdictFrom}
+
+-- entry e's part, as the code cuts it out
+pub part-is : (list : List ℕ) (e : ℕ) → take (4 + 9 * e + 9 - (4 + 9 * e)) (drop (4 + 9 * e) list) ≡ partAt list e
+part-is list e = ap (λ (n : ℕ). take n (drop (4 + 9 * e) list)) (add-sub-cancel-left (4 + 9 * e) 9)
+
+-- ---- A6: the entries before
+
+-- an entry's processor is its first byte
+processor-at : (list : List ℕ) (e : ℕ) → processorIn (partAt list e) ≡ byteAt list (4 + 9 * e)
+processor-at list e =
+    getD-take 9 (drop (4 + 9 * e) list) 0 0 (omega arith)
+    ∙ getD-drop (4 + 9 * e) list 0 0
+    ∙ ap (λ (i : ℕ). getD list i 0) (add-zero (4 + 9 * e))
+
+-- an entry that names a processor but 0 is used
+used-names : (part : List ℕ) (p : ℕ) → 0 < p → (used part && eqb (processorIn part) p) ≡ eqb (processorIn part) p
+used-names part p some =
+    ⊎-elim
+    (λ (t : eqb (processorIn part) p ≡ true).
+    let is = eqb-true (processorIn part) p t in rw (ne-eqb (processorIn part) 0 (λ z. omega (arith, is, z))))
+    (λ (f : eqb (processorIn part) p ≡ false). rw f (and-false (used part)))
+    (decide (eqb (processorIn part) p))
+
+-- the newest of the entries before i, where j is one less
+pub named-newest : (list : List ℕ) (i j p : ℕ) → 0 < p → i ≡ suc j
+    → namedIn (partsBefore list i) p ≡ (eqb (byteAt list (4 + 9 * j)) p || namedIn (partsBefore list j) p)
+unfolding namedIn anyOf partsBefore
+named-newest list i j p some next =
+    ap (λ (n : ℕ). namedIn (partsBefore list n) p) next
+    ∙ ap (λ (t : Bool). t || namedIn (partsBefore list j) p) (used-names (partAt list j) p some)
+    ∙ ap (λ (x : ℕ). eqb x p || namedIn (partsBefore list j) p) (processor-at list j)
+
+-- ---- A5 to A7: what the code's tests say
+
+-- of a processor p, read as q
+pub off-board : {p q row : ℕ} → row ≡ rowOf ours q → q ≡ p → 4 ≤ row → onBoard ours p ≡ false
+unfolding onBoard rows ours
+off-board {p} {q} {row} at same h = le-ltb (rowOf ours p) 4 (subst (λ (r : ℕ). 4 ≤ r) (at ∙ ap (rowOf ours) same) h)
+
+pub on-board : {p q row : ℕ} → row ≡ rowOf ours q → q ≡ p → row < 4 → onBoard ours p ≡ true
+unfolding onBoard rows ours
+on-board {p} {q} {row} at same h = lt-ltb (rowOf ours p) 4 (subst (λ (r : ℕ). r < 4) (at ∙ ap (rowOf ours) same) h)
+
+-- of a master m, read as h
+pub master-test : {h m : ℕ} {r b : Bool} → r ≡ activeHost ours h → h ≡ m → not r ≡ b → not (activeHost ours m) ≡ b
+master-test is same told = ap not (sym (ap (activeHost ours) same) ∙ sym is) ∙ told
+
+-- ---- A5 to A8: one entry
+
+-- A5 to A7 of any three tests
+threeOf : Bool → Bool → Bool → Verdict
+threeOf a b c = cond a A5 (cond b A6 (cond c A7 Accepted))
+
+-- a fault among A5 to A7 comes before A8 and the entries below
+three-bad : (a b c : Bool) (rest : Verdict) → (threeOf a b c ≡ Accepted → ⊥) → cond a A5 (cond b A6 (cond c A7 rest)) ≡ threeOf a b c
+unfolding threeOf
+three-bad true b c rest bad = refl
+three-bad false true c rest bad = refl
+three-bad false false true rest bad = refl
+three-bad false false false rest bad = absurd (bad refl)
+
+-- without one A8 and the entries below decide
+three-good : (a b c : Bool) (rest : Verdict) → threeOf a b c ≡ Accepted → cond a A5 (cond b A6 (cond c A7 rest)) ≡ rest
+unfolding threeOf
+three-good true b c rest good = cc
+three-good false true c rest good = cc
+three-good false false true rest good = cc
+three-good false false false rest good = refl
+
+module _ (rest : Verdict) (earlier : List (List ℕ)) (part : List ℕ) where
+  -- an unused entry is passed over
+  unused-entry : processorIn part ≡ 0 → firstOf rest (entryTable ours earlier part) ≡ rest
+  unfolding firstOf entryTable
+  unused-entry none = rw none
+
+  -- the four lines of a used entry
+  used-entry : (processorIn part ≡ 0 → ⊥)
+      → firstOf rest (entryTable ours earlier part)
+      ≡ cond (not (onBoard ours (processorIn part))) A5
+      (cond (namedIn earlier (processorIn part)) A6
+      (cond (not (activeHost ours (masterIn part))) A7
+      (cond (anyOf (badSecondary ours) (secondariesIn part)) A8 rest)))
+  unfolding firstOf entryTable
+  used-entry some = rw (ne-eqb (processorIn part) 0 some)
+
+  bad-entry : (processorIn part ≡ 0 → ⊥) → (faultOf (namedIn earlier (processorIn part)) part ≡ Accepted → ⊥)
+      → firstOf rest (entryTable ours earlier part) ≡ faultOf (namedIn earlier (processorIn part)) part
+  unfolding faultOf firstOf threeOf
+  bad-entry some bad =
+      used-entry some
+      ∙ three-bad (not (onBoard ours (processorIn part))) (namedIn earlier (processorIn part))
+      (not (activeHost ours (masterIn part))) _ bad
+
+  good-entry : (processorIn part ≡ 0 → ⊥) → faultOf (namedIn earlier (processorIn part)) part ≡ Accepted
+      → firstOf rest (entryTable ours earlier part) ≡ cond (anyOf (badSecondary ours) (secondariesIn part)) A8 rest
+  unfolding faultOf firstOf threeOf
+  good-entry some good =
+      used-entry some
+      ∙ three-good (not (onBoard ours (processorIn part))) (namedIn earlier (processorIn part))
+      (not (activeHost ours (masterIn part))) _ good
+
+-- ---- A8: the secondaries in turn
+
+-- the secondary at k comes before those after it
+bad-next : (part : List ℕ) (k : ℕ) → k < 3 → badFrom part k ≡ (badSecondary ours (u16At part (3 + 2 * k)) || badFrom part (k + 1))
+unfolding badFrom anyOf
+bad-next part zero h = refl
+bad-next part (suc zero) h = refl
+bad-next part (suc (suc zero)) h = refl
+bad-next part (suc (suc (suc k))) h = absurd (omega arith)
+
+-- what the code's test says of a secondary s, read as h
+host-test : {h s : ℕ} {r b : Bool} → r ≡ boardHost ours h → h ≡ s → not r ≡ b → badSecondary ours s ≡ b
+host-test is same told = ap not (sym (ap (boardHost ours) same) ∙ sym is) ∙ told
+
+-- a turn of the loop: what it has read is the secondary and whether that is a board host
+module _ (part : List ℕ) (k : ℕ) {h : ℕ} {r : Bool} (inside : k < 3) (is : r ≡ boardHost ours h) (same : h ≡ u16At part (3 + 2 * k))
+  where
+    pub secondary-bad : not r ≡ true → badFrom part k ≡ true
+    secondary-bad told = bad-next part k inside ∙ rw (host-test is same told)
+
+    pub secondary-good : not r ≡ false → badFrom part k ≡ badFrom part (k + 1)
+    secondary-good told = bad-next part k inside ∙ rw (host-test is same told)
+
+pub secondaries-good : (part : List ℕ) (k : ℕ) → k ≡ 3 → badFrom part k ≡ false
+unfolding badFrom anyOf
+secondaries-good part k all = rw all
+
+-- ---- the entries in turn
+
+-- what the entries from e on come to is what entry e comes to before those from e + 1 on
+from-entry : (list : List ℕ) (e : ℕ) → e < 32
+    → verdictFrom list e ≡ firstOf (verdictFrom list (e + 1)) (entryTable ours (partsBefore list e) (partAt list e))
+unfolding verdictFrom partsBefore partsFrom entriesTable
+from-entry list e h =
+    let left : 32 - e ≡ suc (32 - (e + 1)) = omega arith in
+    ap (λ (n : ℕ). firstOf Accepted (entriesTable ours (partsBefore list e) (partsFrom list e n))) left
+    ∙ firstOf-append Accepted (entryTable ours (partsBefore list e) (partAt list e))
+    (entriesTable ours (partAt list e ∷ partsBefore list e) (partsFrom list (suc e) (32 - (e + 1))))
+    ∙ ap (λ (n : ℕ). firstOf (firstOf Accepted (entriesTable ours (partsBefore list n) (partsFrom list n (32 - (e + 1)))))
+    (entryTable ours (partsBefore list e) (partAt list e)))
+    (sym (add-one e))
+
+-- a turn of the loop: what it has read is the entry's part and its processor
+module _ (list : List ℕ) (e : ℕ) {part : List ℕ} {p : ℕ} (h : e < 32) (is : part ≡ partAt list e) (at : p ≡ processorIn part) where
+  pub turn-unused : p ≡ 0 → verdictFrom list e ≡ verdictFrom list (e + 1)
+  turn-unused none =
+      from-entry list e h
+      ∙ unused-entry (verdictFrom list (e + 1)) (partsBefore list e) (partAt list e)
+      (sym (ap (λ (l : List ℕ). processorIn l) is) ∙ sym at ∙ none)
+
+  -- of a used entry also whether an earlier one names its processor, and A5 to A7
+  module _ {fault : Verdict} {named : Bool} (some : p ≡ 0 → ⊥) (before : named ≡ namedIn (partsBefore list e) p)
+      (judged : fault ≡ faultOf named part) where
+    names-one : processorIn (partAt list e) ≡ 0 → ⊥
+    names-one none = some (at ∙ ap (λ (l : List ℕ). processorIn l) is ∙ none)
+
+    whole : faultOf (namedIn (partsBefore list e) (processorIn (partAt list e))) (partAt list e) ≡ fault
+    whole = cc
+
+    pub turn-bad : (fault ≡ Accepted → ⊥) → verdictFrom list e ≡ fault
+    turn-bad bad =
+        from-entry list e h
+        ∙ bad-entry (verdictFrom list (e + 1)) (partsBefore list e) (partAt list e) names-one (λ good. bad (sym whole ∙ good))
+        ∙ whole
+
+    pub turn-good : fault ≡ Accepted → verdictFrom list e ≡ cond (badFrom part 0) A8 (verdictFrom list (e + 1))
+    unfolding badFrom
+    turn-good good =
+        from-entry list e h
+        ∙ good-entry (verdictFrom list (e + 1)) (partsBefore list e) (partAt list e) names-one (whole ∙ good)
+        ∙ ap (λ (l : List ℕ). cond (badFrom l 0) A8 (verdictFrom list (e + 1))) (sym is)
+
+-- ---- accepted or not
+
+no-zero : (ks : List ℕ) → OneOf (map suc ks) 0 → ⊥
+no-zero [] h = h
+no-zero (k ∷ []) h = omega arith
+no-zero (k ∷ l ∷ ks) h = ⊎-elim (λ e. omega (arith, e)) (λ later. no-zero (l ∷ ks) later) h
+
+-- the number of `Accepted` is none of the faults' numbers
+pub no-fault : OneOf (1 ∷ 2 ∷ 3 ∷ 4 ∷ 5 ∷ 6 ∷ 7 ∷ 8 ∷ []) 0 → ⊥
+no-fault h = no-zero (0 ∷ 1 ∷ 2 ∷ 3 ∷ 4 ∷ 5 ∷ 6 ∷ 7 ∷ []) h
+
+-- a list of another length comes to A1 or A2
+neither : (listed : Bool) → cond listed A1 A2 ≡ Accepted → ⊥
+neither true same = let z : _≡_ {A = ℕ} 0 1 = cc in omega arith
+neither false same = let z : _≡_ {A = ℕ} 0 1 = cc in omega arith
+
+pub accepted-length : {v : Verdict} (listed : Bool) (list : List ℕ) → v ≡ verdictOf ours listed list → v ≡ Accepted → length list ≡ 292
+unfolding verdictOf listTable firstOf
+accepted-length listed list told good =
+    ⊎-elim (λ t. eqb-true (length list) 292 t)
+    (λ f. absurd (neither listed (rw f at (sym told ∙ good))))
+    (decide (eqb (length list) 292))
+
+pub not-accepted : (v : Verdict) → (v ≡ Accepted → ⊥) → accepted v ≡ false
+unfolding accepted
+not-accepted Accepted bad = absurd (bad refl)
+not-accepted A1 bad = refl
+not-accepted A2 bad = refl
+not-accepted A3 bad = refl
+not-accepted A4 bad = refl
+not-accepted A5 bad = refl
+not-accepted A6 bad = refl
+not-accepted A7 bad = refl
+not-accepted A8 bad = refl

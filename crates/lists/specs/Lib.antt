@@ -1,0 +1,2 @@
+-- The steps of the judge of a list.
+pub mod Judged

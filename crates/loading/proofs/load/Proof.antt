@@ -1,0 +1,110 @@
+-- `loading::load` meets its contract. The loop's invariant: the memory is 1 and the words of the first e parts' entries.
+-- Assumes nothing.
+use Prim.Native.Nat.{_≤_, _-_}
+use mathlib.Core.Path.{_≡_, _∙_}
+use mathlib.Core.List.{_∷_}
+use native.Mathlib.Omega.{arith}
+use borrow.Author.Needs.{needs}
+use lib.ListN.{length, length-set}
+use Rattle.loading.specs.Loaded.{wordsOf, entriesBefore}
+use Rattle.loading.proofs.Words.{load-first, put-next, entries-all}
+use Rattle.lists.proofs.Verdicts.{part-is}
+use Rattle.loading.proofs.load.Statement.{statement}
+use Rattle.loading.proofs.load.Tie as tie
+
+abbrev Inv-loop : tie.InvT-loop
+Inv-loop memory₀ list e₀ memory e =
+    (e ≤ 32) × (memory ≡ 1 ∷ wordsOf (entriesBefore list e)) × (length memory ≡ 17)
+
+abbrev μ-loop : tie.MeasureT-loop
+μ-loop memory₀ list e₀ memory e = 32 - e
+
+clear-requires : tie.Need-clear-requires Inv-loop μ-loop
+clear-requires c κs = search needs
+
+slice-write-memory : tie.Need-slice-write-memory Inv-loop μ-loop
+slice-write-memory c = omega arith
+
+loop-holds : tie.Need-loop-holds Inv-loop μ-loop
+loop-holds c =
+    let start = c .before .before .before .before .before .before in (
+      omega arith,
+      load-first (start .args .list .now) (c .before .before .clear .ensures) (start .pre .0),
+      simp length-set (omega arith),
+    )
+
+mul-store-entry : tie.Need-mul-store-entry Inv-loop μ-loop
+mul-store-entry c = omega arith
+
+add-store-entry : tie.Need-add-store-entry Inv-loop μ-loop
+add-store-entry c = omega arith
+
+mul-store-entry-2 : tie.Need-mul-store-entry-2 Inv-loop μ-loop
+mul-store-entry-2 c = omega arith
+
+add-store-entry-2 : tie.Need-add-store-entry-2 Inv-loop μ-loop
+add-store-entry-2 c = omega arith
+
+add-store-entry-3 : tie.Need-add-store-entry-3 Inv-loop μ-loop
+add-store-entry-3 c = omega arith
+
+sub-store-entry : tie.Need-sub-store-entry Inv-loop μ-loop
+sub-store-entry c = omega arith
+
+part-store-entry-start : tie.Need-part-store-entry-start Inv-loop μ-loop
+part-store-entry-start c = omega arith
+
+part-store-entry-end : tie.Need-part-store-entry-end Inv-loop μ-loop
+part-store-entry-end c = omega arith
+
+store-entry-requires : tie.Need-store-entry-requires Inv-loop μ-loop
+store-entry-requires c κs = search needs
+
+add-e : tie.Need-add-e Inv-loop μ-loop
+add-e c = omega arith
+
+loop-less : tie.Need-loop-less Inv-loop μ-loop
+loop-less c = omega arith
+
+loop-again : tie.Need-loop-again Inv-loop μ-loop
+loop-again c =
+    let turn = c .before .before .before .before .before .before in
+    let list = turn .before .before .before .before .before .before .before .args .list .now in
+    let e = turn .loop .e in (
+      omega arith,
+      c .before .before .store-entry .ensures ∙ rw (part-is list e, turn .loop .inv .1) (put-next list e),
+      omega arith,
+    )
+
+same-length : tie.Need-same-length Inv-loop μ-loop
+same-length c = omega arith
+
+returns : tie.Need-returns Inv-loop μ-loop
+returns c =
+    let list = c .before .before .before .before .before .before .before .before .args .list .now in
+    let all : c .before .loop .e ≡ 32 = omega arith in
+    c .before .loop .inv .1 ∙ rw (all, entries-all list)
+
+pub load-spec : {M : Type 1} → statement M
+load-spec =
+    tie.close
+    (tie.spec
+    Inv-loop
+    μ-loop
+    clear-requires
+    slice-write-memory
+    loop-holds
+    mul-store-entry
+    add-store-entry
+    mul-store-entry-2
+    add-store-entry-2
+    add-store-entry-3
+    sub-store-entry
+    part-store-entry-start
+    part-store-entry-end
+    store-entry-requires
+    add-e
+    loop-less
+    loop-again
+    same-length
+    returns)

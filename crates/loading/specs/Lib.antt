@@ -1,0 +1,2 @@
+-- What the list call leaves in the access memory.
+pub mod Loaded

@@ -1,0 +1,73 @@
+// The list call: an access list is judged and, where it is accepted, its entries are put into the
+// access memory by row, where crate access finds them. A refused list changes nothing.
+ghost use mathlib.Core.Path.{_≡_};
+ghost use mathlib.Core.List.{_∷_};
+ghost use lib.ListN.{length, replicate};
+ghost use Rattle.rules.specs.Board.{ours};
+ghost use Rattle.rules.specs.AccessList.{entriesOf, verdictOf};
+ghost use Rattle.access.specs.Memory.{listedIn};
+ghost use Rattle.loading.specs.Loaded.{wordsOf, accessAfter, putEntry};
+use access::is_listed;
+use board::ROWS;
+use board::row_of;
+use lists::judge;
+use rules::Verdict;
+use wire::byte_at;
+use wire::u16_at;
+
+// Sets every word to 0: no entry at any row.
+fn clear(memory: &mut [u16])
+    ensures { λ _. ⌜ now (memory .exit) ≡ replicate (length (now (memory .entry))) 0 ⌝ }
+{
+    let mut i = 0;
+    while i < memory.len() {
+        memory[i] = 0;
+        i += 1;
+    }
+}
+
+// Puts an entry's four words at its processor's row. An unused entry's processor 0 has no row.
+fn store_entry(memory: &mut [u16], part: &[u8])
+    requires { ⌜ length (now memory) ≡ 17 ⌝ }
+    ensures { λ _. ⌜ now (memory .exit) ≡ putEntry (now (part .entry)) (now (memory .entry)) ⌝ }
+{
+    let row = row_of(byte_at(part, 0));
+    if row >= ROWS {
+        return;
+    }
+    let at = 1 + 4 * (row as usize);
+    memory[at] = u16_at(part, 1);
+    memory[at + 1] = u16_at(part, 3);
+    memory[at + 2] = u16_at(part, 5);
+    memory[at + 3] = u16_at(part, 7);
+}
+
+// Puts 1 and the entries of a list of the right length into the memory, whatever it held.
+fn load(memory: &mut [u16], list: &[u8])
+    requires { ⌜ length (now memory) ≡ 17 ⌝ }
+    requires { ⌜ length (now list) ≡ 292 ⌝ }
+    ensures { λ _. ⌜ now (memory .exit) ≡ 1 ∷ wordsOf (entriesOf ours (now (list .entry))) ⌝ }
+{
+    clear(memory);
+    memory[0] = 1;
+    let mut e: usize = 0;
+    while e < 32 {
+        store_entry(memory, &list[4 + 9 * e..4 + 9 * e + 9]);
+        e += 1;
+    }
+}
+
+// The list call: judges first, and on a refusal writes nothing. Memory of zeros is that of a manager
+// with no list.
+pub fn offer_list(access: &mut [u16; 17], list: &[u8]) -> Verdict
+    ensures verdict { λ r. ⌜ r ≡ verdictOf ours (listedIn (now (access .entry))) (now (list .entry)) ⌝ }
+    ensures memory { λ _. ⌜ now (access .exit) ≡ accessAfter (now (access .entry)) (now (list .entry)) ⌝ }
+{
+    let memory = &mut access[..];
+    match judge(is_listed(memory), list) {
+        Verdict::Accepted => {}
+        fault => return fault,
+    }
+    load(memory, list);
+    Verdict::Accepted
+}

@@ -1,0 +1,191 @@
+-- The rows from N4 on, as the functions test them: which outcome a test that holds gives, once those above it failed, and what that
+-- leaves in the record memory. Once for every type. Assumes nothing.
+use Prim.Native.Nat.{ℕ, _≤_, _<_}
+use mathlib.Core.Path.{_≡_, refl, sym, subst, ap, _∙_}
+use mathlib.Core.Bool.{Bool, true, false, not}
+use mathlib.Core.List.{List}
+use lib.ListN.{length}
+use lib.Dec.{eqb}
+use borrow.Author.Tests.{lt-ltb, le-ltb, not-true, not-false}
+use Rattle.rules.specs.declared.Kind.{Kind}
+use Rattle.rules.specs.declared.Kind.the-variants.{GetStatus, WaitStatus}
+use Rattle.rules.specs.declared.Outcome.{Outcome}
+use Rattle.rules.specs.declared.Outcome.the-variants.{N4, N5, N6, N7, N8, Ok}
+use Rattle.rules.specs.declared.Record.{Record}
+use Rattle.rules.specs.Table.{firstOf}
+use Rattle.rules.specs.Board.{ours, rows, rowOf, onBoard, classAt, classOf}
+use Rattle.rules.specs.Message.{Query, sizeOf, isKind, processorOf, subjectOf}
+use Rattle.rules.specs.Outcome.{View, tooShort, notOffered, hasRight, operandsGood, wordsMissing, waitFailed, byWords, carriedOut, outcomeNumber}
+use Rattle.rules.specs.Effect.{effectOf}
+use Rattle.rules.proofs.Tests.{cond-true, cond-false}
+use Rattle.access.specs.Memory.{viewWith}
+use Rattle.records.specs.Memory.{recordAt, viewIn, withRecord}
+use Rattle.operations.specs.Operation.{typeTable, rowIn, memoryAfter, Carries}
+
+-- ---- what a test of x says of the t that x is
+
+pub told-true : {x t : Bool} → x ≡ t → not x ≡ false → t ≡ true
+told-true is h = sym is ∙ not-false _ h
+
+pub told-false : {x t : Bool} → x ≡ t → not x ≡ true → t ≡ false
+told-false is h = sym is ∙ not-true _ h
+
+-- ---- the board's rows, as the code tests them
+
+pub row-off : (b : ℕ) → 4 ≤ rowOf ours b → onBoard ours b ≡ false
+unfolding onBoard rows ours
+row-off p h = le-ltb (rowOf ours p) 4 h
+
+pub row-on : (b : ℕ) → rowOf ours b < 4 → onBoard ours b ≡ true
+unfolding onBoard rows ours
+row-on p h = lt-ltb (rowOf ours p) 4 h
+
+-- ---- the outcome
+
+module _ (k : Kind) (v : View) (q : Query) where
+  abbrev outcome : Outcome
+  outcome = firstOf Ok (typeTable v q k)
+
+  pub is-N4 : tooShort k q ≡ true → outcome ≡ N4
+  unfolding typeTable firstOf
+  is-N4 short = cond-true _ _ short
+
+  pub is-N5 : tooShort k q ≡ false → notOffered k ≡ true → outcome ≡ N5
+  unfolding typeTable firstOf
+  is-N5 whole closed = rw (whole, closed)
+
+  module _ (whole : tooShort k q ≡ false) (offered : notOffered k ≡ false) where
+    pub is-N6 : onBoard (v .board) (subjectOf q) ≡ false → outcome ≡ N6
+    unfolding typeTable firstOf
+    is-N6 off = rw (whole, offered, off)
+
+    module _ (on : onBoard (v .board) (subjectOf q) ≡ true) where
+      pub is-N7 : hasRight k v q ≡ false → outcome ≡ N7
+      unfolding typeTable firstOf
+      is-N7 lacks = rw (whole, offered, on, lacks)
+
+      module _ (right : hasRight k v q ≡ true) where
+        pub is-N8 : operandsGood k v q ≡ false → outcome ≡ N8
+        unfolding typeTable firstOf
+        is-N8 wrong = rw (whole, offered, on, right, wrong)
+
+        -- what is left are the rows on status words
+        pub by-words : operandsGood k v q ≡ true → outcome ≡ firstOf Ok (byWords q k)
+        unfolding typeTable firstOf
+        by-words good = rw (whole, offered, on, right, good)
+
+-- ---- the rows as the code tests them
+
+-- what a message of type k comes to, with this access memory and this record
+pub record Comes (k : Kind) (q : Query) (access : List ℕ) (state : Record) (o : Outcome) : Type 0 where
+  pub is : outcome k (viewWith access (rowIn q) state) q ≡ o
+
+-- and it is a refusal that reports no checks
+pub record Refused (k : Kind) (q : Query) (access : List ℕ) (state : Record) (o : Outcome) : Type 0 where
+  pub comes : Comes k q access state o
+  pub refused : carriedOut o ≡ false
+  pub early : eqb (outcomeNumber o) 9 ≡ false
+
+-- past N8: what is left are the rows on status words
+abbrev pub Admitted : Kind → Query → List ℕ → Record → Type 0
+Admitted k q access state = Comes k q access state (firstOf Ok (byWords q k))
+
+-- past N6: the message is whole, the processor that it names has this row, and the record at hand is `state′`, which the rules see
+pub record Reached (k : Kind) (q : Query) (row : ℕ) (state state′ : Record) : Type 0 where
+  pub whole : tooShort k q ≡ false
+  pub offered : notOffered k ≡ false
+  pub here : row ≡ rowIn q
+  pub on : onBoard ours (subjectOf q) ≡ true
+  pub same : state ≡ state′
+
+-- and it was loaded from that row
+pub record Loaded (k : Kind) (q : Query) (memory : List ℕ) (row : ℕ) (state : Record) : Type 0 where
+  pub reached : Reached k q row state (recordAt memory (rowIn q))
+
+module _ {k : Kind} {q : Query} {access : List ℕ} {state : Record} where
+  pub too-short : length (q .message) < sizeOf k → Refused k q access state N4
+  unfolding carriedOut
+  too-short short = record { comes = record { is = is-N4 k _ q (lt-ltb _ _ short) }; refused = refl; early = refl }
+
+  module _ {row : ℕ} (whole : sizeOf k ≤ length (q .message)) (offered : notOffered k ≡ false)
+      (here : row ≡ rowOf ours (processorOf (q .message))) where
+    pub off-board : 4 ≤ row → Refused k q access state N6
+    unfolding carriedOut subjectOf
+    off-board off =
+        record {
+          comes = record { is = is-N6 k _ q (le-ltb _ _ whole) offered (row-off _ (rw here at off)) };
+          refused = refl;
+          early = refl;
+        }
+
+module _ {k : Kind} {q : Query} {row : ℕ} {state : Record} (whole : sizeOf k ≤ length (q .message)) (offered : notOffered k ≡ false)
+    (here : row ≡ rowOf ours (processorOf (q .message))) (on : row < 4) where
+  pub reached : {state′ : Record} → state ≡ state′ → Reached k q row state state′
+  unfolding subjectOf
+  reached same =
+      record { whole = le-ltb _ _ whole; offered = offered; here = here; on = row-on _ (rw here at on); same = same }
+
+  pub loaded-at : {memory : List ℕ} → state ≡ recordAt memory row → Loaded k q memory row state
+  unfolding subjectOf
+  loaded-at {memory} loaded = record { reached = reached (loaded ∙ ap (recordAt memory) here) }
+
+module _ {k : Kind} {q : Query} {row : ℕ} {state state′ : Record} (r : Reached k q row state state′) where
+  -- a test of the class that the code finds by the row
+  pub by-class : (good : ℕ → List ℕ → Bool) {class : ℕ} {y : Bool} → class ≡ classAt ours row → y ≡ good class (q .message)
+      → y ≡ good (classOf ours (subjectOf q)) (q .message)
+  unfolding classOf
+  by-class good found is = is ∙ ap (λ (n : ℕ). good n (q .message)) (found ∙ ap (classAt ours) (r .here))
+
+  module _ {access : List ℕ} where
+    -- what the code sees comes to what the rules see
+    as-seen : {o : Outcome} → outcome k (viewWith access row state) q ≡ o → Comes k q access state′ o
+    as-seen {o} is =
+        record {
+          is = subst (λ (s : Record). outcome k (viewWith access (rowIn q) s) q ≡ o) (r .same)
+              (subst (λ (n : ℕ). outcome k (viewWith access n state) q ≡ o) (r .here) is);
+        }
+
+    pub lacks-right : {x : Bool} → x ≡ hasRight k (viewWith access row state) q → not x ≡ true → Refused k q access state′ N7
+    unfolding carriedOut
+    lacks-right is lacks =
+        record {
+          comes = as-seen (is-N7 k _ q (r .whole) (r .offered) (r .on) (told-false is lacks));
+          refused = refl;
+          early = refl;
+        }
+
+    module _ {x : Bool} (is : x ≡ hasRight k (viewWith access row state) q) (has : not x ≡ false) where
+      pub wrong-operands : {y : Bool} → y ≡ operandsGood k (viewWith access row state) q → not y ≡ true → Refused k q access state′ N8
+      unfolding carriedOut
+      wrong-operands good wrong =
+          record {
+            comes = as-seen (is-N8 k _ q (r .whole) (r .offered) (r .on) (told-true is has) (told-false good wrong));
+            refused = refl;
+            early = refl;
+          }
+
+      pub admitted : {y : Bool} → y ≡ operandsGood k (viewWith access row state) q → not y ≡ false → Admitted k q access state′
+      admitted good right =
+          as-seen (by-words k _ q (r .whole) (r .offered) (r .on) (told-true is has) (told-true good right))
+
+-- ---- the memory
+
+module _ {k : Kind} {access memory : List ℕ} {q : Query} where
+  -- a refusal leaves it
+  pub refuses : {o : Outcome} → Refused k q access (recordAt memory (rowIn q)) o → Carries k access memory q memory o
+  unfolding memoryAfter viewIn
+  refuses r = record { outcome = sym (r .comes .is); records = sym (cond-false _ _ (r .refused)) }
+
+  -- OK has its effect: for the types that look at no status word
+  pub carries : {row : ℕ} {state next : Record} {memory′ : List ℕ} → isKind k GetStatus ≡ false → isKind k WaitStatus ≡ false
+      → Loaded k q memory row state → Admitted k q access (recordAt memory (rowIn q))
+      → next ≡ effectOf k q state → memory′ ≡ withRecord memory row next
+      → Carries k access memory q memory′ Ok
+  unfolding memoryAfter carriedOut viewIn firstOf byWords wordsMissing waitFailed
+  carries {row} get wait l comes next stored =
+      record {
+        outcome = sym (comes .is ∙ rw (get, wait));
+        records = stored
+            ∙ ap (withRecord memory row) (next ∙ ap (effectOf k q) (l .reached .same))
+            ∙ ap (λ (n : ℕ). withRecord memory n (effectOf k q (recordAt memory (rowIn q)))) (l .reached .here);
+      }

@@ -1,0 +1,85 @@
+-- The rows R3 and N9, which look at status words: of get status, and of wait status with what it reports. Assumes nothing.
+use Prim.Native.Nat.{ℕ, _≤_, _<_}
+use mathlib.Core.Path.{_≡_, refl, sym, subst, _∙_}
+use mathlib.Core.Bool.{Bool, true, false, cond, or-false}
+use mathlib.Core.List.{List}
+use lib.ListN.{length}
+use borrow.Author.Tests.{eq-eqb, ne-eqb, lt-ltb, le-ltb}
+use Rattle.rules.specs.declared.Kind.{Kind}
+use Rattle.rules.specs.declared.Kind.the-variants.{GetStatus, WaitStatus}
+use Rattle.rules.specs.declared.Outcome.{Outcome}
+use Rattle.rules.specs.declared.Outcome.the-variants.{N9, R3, Ok}
+use Rattle.rules.specs.declared.Record.{Record}
+use Rattle.rules.specs.declared.Wait.{Wait}
+use Rattle.rules.specs.Table.{firstOf}
+use Rattle.rules.specs.Message.{Query, waitIn}
+use Rattle.rules.specs.Wait.{ranOut, checksOf, microsOf}
+use Rattle.rules.specs.Outcome.{wordsMissing, waitFailed, byWords, carriedOut}
+use Rattle.rules.specs.Answer.{waited}
+use Rattle.rules.proofs.Tests.{cond-true, cond-false}
+use Rattle.access.specs.Memory.{viewWith}
+use Rattle.operations.specs.declared.Decision.{Decision}
+use Rattle.operations.specs.Operation.{typeTable, rowIn, decisionOn}
+use Rattle.operations.proofs.Rows.{Comes, Refused, Admitted}
+
+-- ---- of any type
+
+module _ {k : Kind} {q : Query} {access : List ℕ} {state : Record} (past : Admitted k q access state) where
+  words-missing : wordsMissing k q ≡ true → Refused k q access state R3
+  unfolding carriedOut firstOf byWords
+  words-missing missing =
+      record { comes = record { is = past .is ∙ cond-true _ _ missing }; refused = refl; early = refl }
+
+  words-there : wordsMissing k q ≡ false → Comes k q access state (cond (waitFailed k q) N9 Ok)
+  unfolding firstOf byWords
+  words-there there = record { is = past .is ∙ cond-false _ _ there }
+
+-- ---- get status
+
+module _ {q : Query} {access : List ℕ} {state : Record} (past : Admitted GetStatus q access state) where
+  pub no-word : length (q .status) ≡ 0 → Refused GetStatus q access state R3
+  unfolding wordsMissing
+  no-word none = words-missing past (or-false _ ∙ eq-eqb _ 0 none)
+
+  pub a-word : (length (q .status) ≡ 0 → ⊥) → Comes GetStatus q access state Ok
+  unfolding wordsMissing waitFailed
+  a-word some = words-there past (or-false _ ∙ ne-eqb _ 0 some)
+
+-- what the contract asks
+pub reads : {q : Query} {access : List ℕ} {state : Record} {o : Outcome} → Comes GetStatus q access state o
+    → o ≡ firstOf Ok (typeTable (viewWith access (rowIn q) state) q GetStatus)
+reads comes = sym (comes .is)
+
+-- ---- wait status
+
+module _ {q : Query} {access : List ℕ} {state : Record} {w : Wait} (past : Admitted WaitStatus q access state)
+    (here : w ≡ waitIn (q .message)) where
+  pub few-words : length (q .status) < w .waits → Refused WaitStatus q access state R3
+  unfolding wordsMissing
+  few-words few = words-missing past (lt-ltb _ _ (subst (λ (v : Wait). length (q .status) < v .waits) here few))
+
+  pub enough-words : w .waits ≤ length (q .status) → Comes WaitStatus q access state (cond (ranOut w (q .status)) N9 Ok)
+  unfolding wordsMissing waitFailed
+  enough-words enough =
+      subst (λ (v : Wait). Comes WaitStatus q access state (cond (ranOut v (q .status)) N9 Ok)) (sym here)
+      (words-there past (le-ltb _ _ (subst (λ (v : Wait). v .waits ≤ length (q .status)) here enough)))
+
+-- a refusal reports no checks
+pub unwaits : {q : Query} {access : List ℕ} {state : Record} {o : Outcome} {d : Decision} → Refused WaitStatus q access state o
+    → d ≡ record { outcome = o; checks = 0; micros = 0 }
+    → d ≡ decisionOn WaitStatus q (firstOf Ok (typeTable (viewWith access (rowIn q) state) q WaitStatus))
+unfolding decisionOn waited
+unwaits r is = is ∙ rw (r .comes .is, r .refused, r .early)
+
+-- a wait that ended reports them, OK or N9
+ended : (out : Bool) → waited WaitStatus (cond out N9 Ok) ≡ true
+unfolding waited carriedOut
+ended true = refl
+ended false = refl
+
+pub waits : {q : Query} {access : List ℕ} {state : Record} {w : Wait} {d : Decision} → w ≡ waitIn (q .message)
+    → Comes WaitStatus q access state (cond (ranOut w (q .status)) N9 Ok)
+    → d ≡ record { outcome = cond (ranOut w (q .status)) N9 Ok; checks = checksOf w (q .status); micros = microsOf w (q .status) }
+    → d ≡ decisionOn WaitStatus q (firstOf Ok (typeTable (viewWith access (rowIn q) state) q WaitStatus))
+unfolding decisionOn
+waits {q} {w = w} here comes is = is ∙ rw (comes .is, ended (ranOut w (q .status)), here)

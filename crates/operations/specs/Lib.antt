@@ -1,0 +1,2 @@
+-- What one message type comes to.
+pub mod Operation

@@ -1,0 +1,76 @@
+-- What a message of one type comes to once the rows R1 to N3 of "Outcomes" are passed: the rows from N4 on, and the effect of OK in the
+-- lent record memory. Assumes nothing.
+use Prim.Native.Nat.{ℕ}
+use mathlib.Core.Path.{_≡_}
+use mathlib.Core.Bool.{cond, not}
+use mathlib.Core.List.{List, _∷_}
+use Rattle.rules.specs.declared.Kind.{Kind}
+use Rattle.rules.specs.declared.Kind.the-variants.{AuthBoot, GetStatus, WaitStatus}
+use Rattle.rules.specs.declared.Outcome.{Outcome}
+use Rattle.rules.specs.declared.Outcome.the-variants.{N4, N5, N6, N7, N8, Ok}
+use Rattle.rules.specs.declared.Record.{Record}
+use Rattle.rules.specs.Table.{Line, _gives_, firstOf}
+use Rattle.rules.specs.Board.{ours, rowOf}
+use Rattle.rules.specs.Message.{Query, subjectOf, waitIn}
+use Rattle.rules.specs.Wait.{checksOf, microsOf}
+use Rattle.rules.specs.Outcome.{View, tooShort, notOffered, offBoard, hasRight, operandsGood, byWords, carriedOut}
+use Rattle.rules.specs.Effect.{effectOf}
+use Rattle.rules.specs.Answer.{waited}
+use Rattle.access.specs.Memory.{viewWith}
+use Rattle.records.specs.Memory.{recordAt, viewIn, withRecord}
+use Rattle.operations.specs.declared.Decision.{Decision}
+
+-- the outcome table from N4 on
+unfoldable pub typeTable : View → Query → Kind → List (Line Outcome)
+typeTable v q k =
+    (tooShort k q gives N4)
+    ∷ (notOffered k gives N5)
+    ∷ (offBoard (v .board) q gives N6)
+    ∷ (not (hasRight k v q) gives N7)
+    ∷ (not (operandsGood k v q) gives N8)
+    ∷ byWords q k
+
+-- what these rows ask of a message: the answer room is not among it
+abbrev pub asked : ℕ → List ℕ → List ℕ → Query
+asked channel message status = record { channel = channel; message = message; status = status; room = 0 }
+
+-- the row of the processor whose record the call works on
+abbrev pub rowIn : Query → ℕ
+rowIn q = rowOf ours (subjectOf q)
+
+-- the record memory after a message of type k with this outcome: OK has its effect, and a refusal leaves the memory
+unfoldable pub memoryAfter : Kind → Outcome → List ℕ → Query → List ℕ
+memoryAfter k o memory q =
+    cond (carriedOut o) (withRecord memory (rowIn q) (effectOf k q (recordAt memory (rowIn q)))) memory
+
+-- what a function promises that carries out messages of type k: the outcome, and the record memory afterwards
+pub record Carries (k : Kind) (access memory : List ℕ) (q : Query) (memory′ : List ℕ) (r : Outcome) : Type 0 where
+  pub outcome : r ≡ firstOf Ok (typeTable (viewIn access memory (rowIn q)) q k)
+  pub records : memory′ ≡ memoryAfter k r memory q
+
+-- of a type whose right is the controller's, and that asks for no entry: whatever the access memory holds
+abbrev pub CarriesByController : Kind → List ℕ → Query → List ℕ → Outcome → Type 0
+CarriesByController k memory q memory′ r = (access : List ℕ) → Carries k access memory q memory′ r
+
+-- authenticated boot: whoever sends it
+abbrev pub RefusesBoot : List ℕ → Outcome → Type 0
+RefusesBoot message r =
+    (v : View) (channel : ℕ) (status : List ℕ) → r ≡ firstOf Ok (typeTable v (asked channel message status) AuthBoot)
+
+-- get status: whatever the record
+abbrev pub ReadsStatus : List ℕ → Query → Outcome → Type 0
+ReadsStatus access q r = (state : Record) → r ≡ firstOf Ok (typeTable (viewWith access (rowIn q) state) q GetStatus)
+
+-- an outcome with what a wait reports: the checks and the microseconds where one ended, else 0 and 0
+unfoldable pub decisionOn : Kind → Query → Outcome → Decision
+decisionOn k q o =
+    record {
+      outcome = o;
+      checks = cond (waited k o) (checksOf (waitIn (q .message)) (q .status)) 0;
+      micros = cond (waited k o) (microsOf (waitIn (q .message)) (q .status)) 0;
+    }
+
+-- wait status: whatever the record
+abbrev pub WaitsForStatus : List ℕ → Query → Decision → Type 0
+WaitsForStatus access q r =
+    (state : Record) → r ≡ decisionOn WaitStatus q (firstOf Ok (typeTable (viewWith access (rowIn q) state) q WaitStatus))

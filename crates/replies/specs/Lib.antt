@@ -1,0 +1,2 @@
+-- What is written to the answer buffer.
+pub mod Puts

@@ -1,0 +1,84 @@
+// The answer to a message, written to the start of the lent buffer: the last column of document 01's
+// outcome table. The bytes are those of crate answers. Any buffer and any message are taken.
+ghost use mathlib.Core.Path.{_≡_};
+ghost use lib.ListN.{getD};
+ghost use mathlib.Core.Bool.{cond};
+ghost use mathlib.Core.List.{[]};
+ghost use Rattle.rules.specs.declared.Outcome.the-variants.{Ok};
+ghost use Rattle.rules.specs.Message.{answerAsked};
+ghost use Rattle.rules.specs.Answer.{nak, answerBytes};
+ghost use Rattle.records.specs.Memory.{recordAt};
+ghost use Rattle.operations.specs.Operation.{asked, rowIn};
+ghost use Rattle.replies.specs.Puts.{Puts};
+use answers::header;
+use answers::put;
+use answers::status_answer;
+use messages::answer_asked;
+use messages::kind_of;
+use messages::outcome_number;
+use operations::row_in;
+use records::load;
+use rules::Kind;
+use rules::Outcome;
+use wire::u16_at;
+
+// The first status word, which is the status now; 0 where there is none.
+pub fn status_now(status: &[u32]) -> u32
+    ensures { λ r. ⌜ r ≡ getD (now (status .entry)) 0 0 ⌝ }
+{
+    if 0 < status.len() {
+        return status[0];
+    }
+    0
+}
+
+// Writes the ACK where an answer is asked for, and gives its length. That to get status has the
+// record and the status now, every other is the header alone.
+fn write_ack(answer: &mut [u8], message: &[u8], records: &[u32], status: &[u32]) -> usize
+    ensures { λ r. ⌜ Puts (answerBytes Ok (asked 0 (now (message .entry)) (now (status .entry))) (recordAt (now (records .entry)) (rowIn (asked 0 (now (message .entry)) (now (status .entry)))))) (now (answer .entry)) (now (answer .exit)) r ⌝ }
+{
+    if !answer_asked(message) {
+        return 0;
+    }
+    let kind = kind_of(u16_at(message, 0));
+    if let Kind::GetStatus = kind {
+        let state = load(records, row_in(message));
+        let bytes = status_answer(message, state, status_now(status));
+        return put(answer, &bytes);
+    }
+    let bytes = header(message, true);
+    put(answer, &bytes)
+}
+
+// Writes the NAK where an answer is asked for, and gives its length.
+fn write_nak(answer: &mut [u8], message: &[u8]) -> usize
+    ensures { λ r. ⌜ Puts (cond (answerAsked (now (message .entry))) (nak (now (message .entry))) []) (now (answer .entry)) (now (answer .exit)) r ⌝ }
+{
+    if !answer_asked(message) {
+        return 0;
+    }
+    let bytes = header(message, false);
+    put(answer, &bytes)
+}
+
+// Writes the answer where one is asked for and the outcome has one, and gives its length. A buffer
+// that is too short for the answer is left as it was; no outcome but R1, which has none, comes to that.
+// The outcome is tested before the flag, so that the compiler can join each refusal with its answer.
+pub fn write_answer(
+    answer: &mut [u8],
+    message: &[u8],
+    outcome: Outcome,
+    records: &[u32],
+    status: &[u32],
+) -> usize
+    ensures { λ r. ⌜ Puts (answerBytes outcome (asked 0 (now (message .entry)) (now (status .entry))) (recordAt (now (records .entry)) (rowIn (asked 0 (now (message .entry)) (now (status .entry)))))) (now (answer .entry)) (now (answer .exit)) r ⌝ }
+{
+    let number = outcome_number(outcome);
+    if number == 0 {
+        return write_ack(answer, message, records, status);
+    }
+    if 100 < number {
+        return 0;
+    }
+    write_nak(answer, message)
+}

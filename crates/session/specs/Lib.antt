@@ -1,0 +1,2 @@
+-- How a session ends.
+pub mod Ends

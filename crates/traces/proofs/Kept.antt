@@ -1,0 +1,74 @@
+-- The bytes of the accepted list, which the memories do not keep, play no part: the rules give the same answers without them, and
+-- leave the same of a state. Assumes nothing.
+use Prim.Native.Nat.{ℕ}
+use mathlib.Core.Path.{_≡_, refl, sym, ap, _∙_}
+use mathlib.Core.Bool.{Bool}
+use mathlib.Core.Logic.{⊎-elim}
+use lib.ListN.{set}
+use Rattle.rules.specs.Board.{rowOf}
+use Rattle.rules.specs.AccessList.{verdictOf, accepted}
+use Rattle.rules.specs.Message.{Query, subjectOf}
+use Rattle.rules.specs.Outcome.{View}
+use Rattle.rules.specs.Effect.{recordAfter}
+use Rattle.rules.specs.Answer.{reportOf, answerOf}
+use Rattle.rules.specs.State.{listed, State, entryOf, recordOf, viewOf, stored}
+use Rattle.rules.specs.Call.{Offer, list, verdictTo, taken, afterOffer, afterMessage, answerTo}
+use Rattle.rules.proofs.Tests.{decide, cond-true, cond-false}
+use Rattle.access.specs.Memory.{someList, keptSetup}
+use Rattle.access.proofs.Kept.{keeps-listed}
+use Rattle.records.specs.Memory.{kept}
+
+view-kept : (s : State) (p : ℕ) → viewOf (kept s) p ≡ viewOf s p
+unfolding viewOf kept keptSetup entryOf recordOf
+view-kept s p =
+    λ i.
+    record {
+      board = s .setup .board;
+      listed = keeps-listed (s .setup) i;
+      entry = entryOf (s .setup) p;
+      state = recordOf s p;
+    }
+
+pub record-kept : (s : State) (p : ℕ) → recordOf (kept s) p ≡ recordOf s p
+unfolding kept keptSetup recordOf
+record-kept s p = refl
+
+pub answer-kept : (s : State) (q : Query) → answerTo (kept s) q ≡ answerTo s q
+unfolding answerTo
+answer-kept s q = ap (λ (v : View). record { report = reportOf v q; bytes = answerOf v q }) (view-kept s (subjectOf q))
+
+pub message-kept : (s : State) (q : Query) → afterMessage (kept s) q ≡ kept (afterMessage s q)
+unfolding afterMessage stored kept keptSetup
+message-kept s q =
+    ap
+    (λ (v : View).
+    record {
+      setup = keptSetup (s .setup);
+      records = set (s .records) (rowOf (s .setup .board) (subjectOf q)) (recordAfter v q);
+    })
+    (view-kept s (subjectOf q))
+
+twice : (s : State) → kept (kept s) ≡ kept s
+unfolding kept keptSetup
+twice s =
+    ap (λ (b : Bool). record { setup = record { board = s .setup .board; source = someList b; entries = s .setup .entries }; records = s .records })
+    (keeps-listed (s .setup))
+
+pub verdict-kept : (s : State) (o : Offer) → verdictTo (kept s) o ≡ verdictTo s o
+unfolding verdictTo kept keptSetup
+verdict-kept s (list bytes) = ap (λ (b : Bool). verdictOf (s .setup .board) b bytes) (keeps-listed (s .setup))
+
+taken-kept : (s : State) (o : Offer) → taken (kept s) o ≡ taken s o
+unfolding taken kept keptSetup
+taken-kept s (list bytes) = refl
+
+pub offer-kept : (s : State) (o : Offer) → kept (afterOffer (kept s) o) ≡ kept (afterOffer s o)
+unfolding afterOffer
+offer-kept s o =
+    let same = ap accepted (verdict-kept s o) in
+    ⊎-elim
+    (λ ok.
+    ap kept (cond-true (taken (kept s) o) (kept s) (same ∙ ok) ∙ taken-kept s o ∙ sym (cond-true (taken s o) s ok)))
+    (λ no.
+    ap kept (cond-false (taken (kept s) o) (kept s) (same ∙ no)) ∙ twice s ∙ ap kept (sym (cond-false (taken s o) s no)))
+    (decide (accepted (verdictTo s o)))

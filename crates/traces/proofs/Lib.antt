@@ -1,0 +1,5 @@
+-- Demand 3 of the code: what the memories keep, what a trace leaves and gives, the theorem, and one use of it.
+pub mod Kept
+pub mod Steps
+pub mod Theorem
+pub mod OnTheBench

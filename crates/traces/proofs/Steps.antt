@@ -1,0 +1,101 @@
+-- What a trace leaves and gives is what the rules leave and give for its calls. Assumes nothing.
+use Prim.Native.Nat.{ℕ}
+use mathlib.Core.Path.{_≡_, refl, ap, ap₂, _∙_}
+use mathlib.Core.Bool.{cond}
+use mathlib.Core.List.{List, [], _∷_, _++_}
+use lib.ListN.{length, take, drop}
+use lib.Seq.{take-append-seam}
+use Rattle.rules.specs.declared.Record.{Record}
+use Rattle.rules.specs.declared.Report.{Report}
+use Rattle.rules.specs.Answer.{reportOf}
+use Rattle.rules.specs.State.{Setup, State, stored}
+use Rattle.rules.specs.Call.{list, afterMessage, Answer, answerTo, Lent, queryOf, offer, message, next}
+use Rattle.rules.specs.Sequence.{run}
+use Rattle.noninterference.specs.Statement.{picked, answers}
+use Rattle.access.specs.Memory.{setupIn}
+use Rattle.records.specs.Memory.{stateIn, kept}
+use Rattle.manager.specs.Calls.{ListCall, MessageCall}
+use Rattle.traces.specs.Trace.{Memories, Step, listStep, messageStep, beforeOf, afterOf, callOf, Meets, Trace, done, step, endOf, callsOf}
+use Rattle.traces.specs.Statement.{given}
+use Rattle.traces.proofs.Kept.{answer-kept, message-kept, offer-kept}
+
+-- the memories hold what is kept of a state
+abbrev pub Holds : Memories → State → Type 0
+Holds m s = stateIn (m .access) (m .records) ≡ kept s
+
+-- ---- one step
+
+module _ (s : State) (before after : Memories) (holds : Holds before s) where
+  list-holds : (bytes : List ℕ) {v : _} → ListCall (before .access) bytes (after .access) v → after .records ≡ before .records
+      → Holds after (next s (offer (list bytes)))
+  unfolding next
+  list-holds bytes meets same =
+      ap (stateIn (after .access)) same
+      ∙ meets .state (before .records)
+      ∙ ap (λ (t : State). kept (next t (offer (list bytes)))) holds
+      ∙ offer-kept s (list bytes)
+
+  module _ (lent : Lent) {report : Report} {held : List ℕ}
+      (meets : MessageCall (before .access) (before .records) lent (after .records) held report) where
+    message-holds : after .access ≡ before .access → Holds after (next s (message lent))
+    unfolding next afterMessage stored stateIn
+    message-holds same =
+        ap₂ (λ (u : Setup) (rs : List Record). record { setup = u; records = rs }) (ap setupIn same) (meets .records)
+        ∙ ap (λ (t : State). next t (message lent)) holds
+        ∙ message-kept s (queryOf lent)
+
+    -- what it gave is the rules' answer: the report, and as many bytes of the buffer as were written
+    pub answer-told : record { report = report; bytes = take (report .written) held } ≡ answerTo s (queryOf lent)
+    unfolding answerTo reportOf
+    answer-told =
+        let there = answerTo (stateIn (before .access) (before .records)) (queryOf lent) in
+        ap₂ (λ (r : Report) (bytes : List ℕ). record { report = r; bytes = take (r .written) bytes }) (meets .report) (meets .buffer)
+        ∙ ap (λ (bytes : List ℕ). record { report = there .report; bytes = bytes }) (take-append-seam (there .bytes) (drop (length (there .bytes)) (lent .buffer)))
+        ∙ ap (λ (t : State). answerTo t (queryOf lent)) holds
+        ∙ answer-kept s (queryOf lent)
+
+-- a step that starts from memories that hold s
+pub step-holds : (x : Step) (s : State) → Meets x → Holds (beforeOf x) s → Holds (afterOf x) (next s (callOf x))
+unfolding Meets beforeOf afterOf callOf
+step-holds (listStep bytes before after verdict) s meets holds = list-holds s before after holds bytes (meets .0) (meets .1)
+step-holds (messageStep lent before after report held) s meets holds =
+    message-holds s before after holds lent (meets .0) (meets .1)
+
+-- ---- whole traces
+
+-- the memories at the end hold the state that the calls leave
+pub trace-holds : {m : Memories} {xs : List Step} → Trace m xs → (s : State) → Holds m s → Holds (endOf m xs) (run s (callsOf xs))
+unfolding endOf callsOf run
+trace-holds done s holds = holds
+trace-holds (step {x = x} starts meets rest) s holds =
+    trace-holds rest (next s (callOf x)) (step-holds x s meets (ap (λ (n : Memories). stateIn (n .access) (n .records)) starts ∙ holds))
+
+-- what the picked steps gave are the rules' answers to the picks
+module _ (setup : Setup) (chosen : List ℕ) where
+  given-more : (x : Step) (xs : List Step) (s : State) → Meets x → Holds (beforeOf x) s
+      → given setup chosen xs ≡ answers setup chosen (next s (callOf x)) (callsOf xs)
+      → given setup chosen (x ∷ xs) ≡ answers setup chosen s (callOf x ∷ callsOf xs)
+  unfolding given answers callOf Meets beforeOf
+  given-more (listStep bytes before after verdict) xs s meets holds rest = rest
+  given-more (messageStep lent before after report held) xs s meets holds rest =
+      ap₂ (λ (a : Answer) (later : List Answer). cond (picked setup chosen (queryOf lent)) (a ∷ later) later)
+      (answer-told s before after holds lent (meets .0))
+      rest
+
+  pub trace-given : {m : Memories} {xs : List Step} → Trace m xs → (s : State) → Holds m s
+      → given setup chosen xs ≡ answers setup chosen s (callsOf xs)
+  unfolding callsOf given answers
+  trace-given done s holds = refl
+  trace-given (step {x = x} {xs = xs} starts meets rest) s holds =
+      let from = ap (λ (n : Memories). stateIn (n .access) (n .records)) starts ∙ holds in
+      given-more x xs s meets from (trace-given rest (next s (callOf x)) (step-holds x s meets from))
+
+-- a trace of two runs of steps is a trace of each
+pub trace-first : {m : Memories} (xs ys : List Step) → Trace m (xs ++ ys) → Trace m xs
+trace-first [] ys t = done
+trace-first (x ∷ xs) ys (step starts meets rest) = step starts meets (trace-first xs ys rest)
+
+pub trace-then : {m : Memories} (xs ys : List Step) → Trace m (xs ++ ys) → Trace (endOf m xs) ys
+unfolding endOf
+trace-then [] ys t = t
+trace-then (x ∷ xs) ys (step starts meets rest) = trace-then xs ys rest

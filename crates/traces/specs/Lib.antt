@@ -1,0 +1,3 @@
+-- Traces of the code, and demand 3 as a claim about them.
+pub mod Trace
+pub mod Statement
