@@ -3,7 +3,7 @@ use Prim.Native.Nat.{ℕ, zero, suc, _+_, _-_, _/_, _%_, _^_, _≤_, _<_}
 use mathlib.Core.Path.{_≡_, refl, sym, ap, ap₂, _∙_}
 use mathlib.Core.List.{List, [], _∷_, _++_}
 use mathlib.Core.Logic.{⊎-elim}
-use native.Mathlib.Nat.{add-zero, mod-eq-of-lt, pow-suc}
+use native.Mathlib.Nat.{add-zero, mod-eq-of-lt, one-le-pow, pow-suc}
 use native.Mathlib.Numerals.{add-one}
 use native.Mathlib.Omega.{arith}
 use lib.Dec.{ltb}
@@ -26,7 +26,7 @@ decimal-last k n h = rw (lt-ltb n 10 h)
 -- ---- how many there are
 
 -- no more digits than places
-pub length-decimal : (k n : ℕ) → length (decimalIn k n) ≤ k
+length-decimal : (k n : ℕ) → length (decimalIn k n) ≤ k
 unfolding decimalIn
 length-decimal zero n = omega arith
 length-decimal (suc k) n =
@@ -40,21 +40,20 @@ length-decimal (suc k) n =
 pub number-short : (n : ℕ) → length (decimalIn 10 n ++ (32 ∷ [])) ≤ 11
 number-short n = let few = length-decimal 10 n in omega (arith, length-append (decimalIn 10 n) (32 ∷ []))
 
--- one place more than are needed changes nothing
-decimal-place : (k n : ℕ) → n < 10 ^ suc k → decimalIn (suc (suc k)) n ≡ decimalIn (suc k) n
-unfolding decimalIn
-decimal-place zero n h = rw (lt-ltb n 10 h)
-decimal-place (suc k) n h =
-    let wide = pow-suc 10 (suc k) in
-    ⊎-elim (λ t. rw t)
-    (λ f. rw f (ap (λ (l : List ℕ). l ++ ((48 + n % 10) ∷ [])) (decimal-place k (n / 10) (omega arith))))
-    (decide (ltb n 10))
+-- a number of k + 1 digits, where there are places for them
+length-places : (p k n : ℕ) → k < p → 10 ^ k ≤ n → n < 10 ^ suc k → length (decimalIn p n) ≡ suc k
+length-places zero k n fits low high = absurd (omega arith)
+length-places (suc p) zero n fits low high = ap length (decimal-last p n high)
+length-places (suc p) (suc k) n fits low high =
+    let tens = pow-suc 10 k in
+    let more = pow-suc 10 (suc k) in
+    let one : 1 ≤ 10 ^ k = one-le-pow k 10 (omega arith) in
+    let ih : length (decimalIn p (n / 10)) ≡ suc k = length-places p k (n / 10) (omega arith) (omega arith) (omega arith) in
+    ap length (decimal-digit p n (omega arith)) ∙ length-append (decimalIn p (n / 10)) ((48 + n % 10) ∷ []) ∙ omega arith
 
--- the digits of a number that has more than one: those of a tenth of it, and one more
-pub count-more : (n : ℕ) → n < 10 ^ 10 → 10 ≤ n → length (decimalIn 10 n) ≡ length (decimalIn 10 (n / 10)) + 1
-count-more n h more =
-    ap length (decimal-digit 9 n more ∙ ap (λ (l : List ℕ). l ++ ((48 + n % 10) ∷ [])) (sym (decimal-place 8 (n / 10) (omega arith))))
-    ∙ length-append (decimalIn 10 (n / 10)) ((48 + n % 10) ∷ [])
+-- how many digits a number between two powers of ten has
+pub counted : (k n : ℕ) → k < 10 → 10 ^ k ≤ n → n < 10 ^ suc k → (suc k ≡ length (decimalIn 10 n)) × (suc k ≤ 10)
+counted k n fits low high = (sym (length-places 10 k n fits low high), omega arith)
 
 -- ---- laid over a line, from the last on
 
@@ -93,15 +92,14 @@ last-all (suc k) n =
     (decide (ltb n 10))
 
 -- one turn of the loop that lays digits: the others, laid over a line that has the last
-pub laid-lower : (d : List ℕ) (at i n : ℕ) → at < i → i ≤ length d
-    → laid (set d (i - 1) (48 + n % 10)) at (lastDigits (i - 1 - at) (n / 10)) ≡ laid d at (lastDigits (i - at) n)
+pub laid-lower : (d : List ℕ) (at i n : ℕ) → 0 < i → at + i ≤ length d
+    → laid (set d (at + (i - 1)) (48 + n % 10)) at (lastDigits (i - 1) (n / 10)) ≡ laid d at (lastDigits i n)
 unfolding lastDigits
 laid-lower d at i n h fits =
     let x = 48 + n % 10 in
-    let t = lastDigits (i - 1 - at) (n / 10) in
-    let size : length t ≡ i - 1 - at = length-last (i - 1 - at) (n / 10) in
-    let place : i - 1 ≡ at + length t = omega arith in
-    let count : suc (i - 1 - at) ≡ i - at = omega arith in
-    ap (λ (m : ℕ). laid (set d m x) at t) place
+    let t = lastDigits (i - 1) (n / 10) in
+    let size : length t ≡ i - 1 = length-last (i - 1) (n / 10) in
+    let count : suc (i - 1) ≡ i = omega arith in
+    ap (λ (m : ℕ). laid (set d (at + m) x) at t) (sym size)
     ∙ laid-last d at t x (omega arith)
     ∙ ap (λ (m : ℕ). laid d at (lastDigits m n)) count

@@ -29,18 +29,39 @@ fn append(line: &mut [u8], at: usize, bytes: &[u8]) -> usize
     at + i
 }
 
-// How many decimal digits a number has.
+// How many decimal digits a number has. Tests cost less than a loop that divides.
 fn digit_count(number: u32) -> usize
     ensures { λ r. ⌜ r ≡ length (decimalOf number) ⌝ }
     ensures { λ r. ⌜ r ≤ 10 ⌝ }
 {
-    let mut rest = number;
-    let mut count = 1;
-    while 10 <= rest {
-        rest /= 10;
-        count += 1;
+    if number < 10 {
+        return 1;
     }
-    count
+    if number < 100 {
+        return 2;
+    }
+    if number < 1000 {
+        return 3;
+    }
+    if number < 10000 {
+        return 4;
+    }
+    if number < 100000 {
+        return 5;
+    }
+    if number < 1000000 {
+        return 6;
+    }
+    if number < 10000000 {
+        return 7;
+    }
+    if number < 100000000 {
+        return 8;
+    }
+    if number < 1000000000 {
+        return 9;
+    }
+    10
 }
 
 // Lays the decimal digits of a number over the line, from the last down to the first.
@@ -50,10 +71,10 @@ fn lay_digits(line: &mut [u8], at: usize, number: u32, count: usize)
     ensures { λ _. ⌜ now (line .exit) ≡ laid (now (line .entry)) at (decimalOf number) ⌝ }
 {
     let mut rest = number;
-    let mut i = at + count;
-    while at < i {
+    let mut i = count;
+    while 0 < i {
         i -= 1;
-        line[i] = 48 + (rest % 10) as u8;
+        line[at + i] = 48 + (rest % 10) as u8;
         rest /= 10;
     }
 }

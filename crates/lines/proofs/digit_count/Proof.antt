@@ -1,43 +1,52 @@
--- `lines::digit_count` meets its contract. The loop's invariant: the digits counted, but for the first, and those of what is left are the
--- number's. Assumes nothing.
-use Prim.Native.Nat.{_+_, _^_, _<_}
-use mathlib.Core.Path.{_≡_, ap}
+-- `lines::digit_count` meets its contract: each test has the next power of ten. Assumes nothing.
+use mathlib.Core.Path.{sym, ap}
 use native.Mathlib.Omega.{arith}
 use lib.ListN.{length}
-use Rattle.lines.specs.Lines.{decimalIn}
-use Rattle.lines.proofs.Digits.{count-more, decimal-last, length-decimal}
+use Rattle.lines.proofs.Digits.{counted, decimal-last}
 use Rattle.lines.proofs.digit_count.Statement.{statement}
 use Rattle.lines.proofs.digit_count.Tie as tie
 
-abbrev Inv-loop : tie.InvT-loop
-Inv-loop number rest₀ count₀ rest count =
-    (rest < 10 ^ 10) × (count + length (decimalIn 10 rest) ≡ length (decimalIn 10 number) + 1)
+returns : tie.Need-returns
+returns c = (sym (ap length (decimal-last 9 _ (omega arith))), omega arith)
 
-abbrev μ-loop : tie.MeasureT-loop
-μ-loop number rest₀ count₀ rest count = rest
+returns-2 : tie.Need-returns-2
+returns-2 c = counted 1 _ (omega arith) (omega arith) (omega arith)
 
-loop-holds : tie.Need-loop-holds Inv-loop μ-loop
-loop-holds c = omega arith
+returns-3 : tie.Need-returns-3
+returns-3 c = counted 2 _ (omega arith) (omega arith) (omega arith)
 
-add-count : tie.Need-add-count Inv-loop μ-loop
-add-count c =
-    let few = length-decimal 10 (c .before .before .args .number) in
-    let more = count-more (c .before .loop .rest) (c .before .loop .inv .0) (c .loop-test .taken) in
-    omega arith
+returns-4 : tie.Need-returns-4
+returns-4 c = counted 3 _ (omega arith) (omega arith) (omega arith)
 
-loop-less : tie.Need-loop-less Inv-loop μ-loop
-loop-less c = omega arith
+returns-5 : tie.Need-returns-5
+returns-5 c = counted 4 _ (omega arith) (omega arith) (omega arith)
 
-loop-again : tie.Need-loop-again Inv-loop μ-loop
-loop-again c =
-    let more = count-more (c .before .loop .rest) (c .before .loop .inv .0) (c .loop-test .taken) in
-    (omega arith, omega arith)
+returns-6 : tie.Need-returns-6
+returns-6 c = counted 5 _ (omega arith) (omega arith) (omega arith)
 
-returns : tie.Need-returns Inv-loop μ-loop
-returns c =
-    let few = length-decimal 10 (c .before .before .args .number) in
-    let last = ap length (decimal-last 9 (c .before .loop .rest) (c .loop-test .left)) in
-    (omega arith, omega arith)
+returns-7 : tie.Need-returns-7
+returns-7 c = counted 6 _ (omega arith) (omega arith) (omega arith)
+
+returns-8 : tie.Need-returns-8
+returns-8 c = counted 7 _ (omega arith) (omega arith) (omega arith)
+
+returns-9 : tie.Need-returns-9
+returns-9 c = counted 8 _ (omega arith) (omega arith) (omega arith)
+
+returns-10 : tie.Need-returns-10
+returns-10 c = counted 9 _ (omega arith) (omega arith) (omega arith)
 
 pub digit-count-spec : {M : Type 1} → statement M
-digit-count-spec = tie.close (tie.spec Inv-loop μ-loop loop-holds add-count loop-less loop-again returns)
+digit-count-spec =
+    tie.close
+    (tie.spec
+    returns
+    returns-2
+    returns-3
+    returns-4
+    returns-5
+    returns-6
+    returns-7
+    returns-8
+    returns-9
+    returns-10)
