@@ -22,7 +22,8 @@ use Rattle.records.specs.Memory.{recordAt, viewIn, withRecord}
 use Rattle.records.proofs.LentMemory.{store-same}
 use Rattle.operations.specs.declared.Decision.{Decision}
 use Rattle.operations.specs.Operation.{typeTable, asked, rowIn, memoryAfter, Carries, RefusesBoot, ReadsStatus, decisionOn, WaitsForStatus}
-use Rattle.manager.specs.Decision.{query, senderTable, kindTable, DecidesKind, Decides}
+use Rattle.screening.specs.Screened.{query, senderTable}
+use Rattle.manager.specs.Decision.{kindTable, DecidesKind, Decides}
 
 -- ---- the rows up to the sender
 

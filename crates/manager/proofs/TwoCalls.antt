@@ -34,7 +34,8 @@ use Rattle.operations.specs.declared.Decision.{Decision}
 use Rattle.operations.specs.Operation.{asked, rowIn, memoryAfter, decisionOn}
 use Rattle.replies.specs.Puts.{fitted, Puts}
 use Rattle.replies.proofs.Answers.{fitted-none, bytes-silent, bytes-short, bytes-after}
-use Rattle.manager.specs.Decision.{query, Decides}
+use Rattle.screening.specs.Screened.{query}
+use Rattle.manager.specs.Decision.{Decides}
 use Rattle.manager.specs.Calls.{lending, MessageCall}
 
 -- ---- every answer fits

@@ -1,33 +1,19 @@
--- The message call step by step: the outcome table up to the sender, and from the type on; what a step decides and leaves in the record
--- memory. Assumes nothing.
+-- The message call step by step: the outcome table from the type on, and what a step decides and leaves in the record memory. Assumes
+-- nothing.
 use Prim.Native.Nat.{ℕ}
 use mathlib.Core.Path.{_≡_}
-use mathlib.Core.Bool.{Bool, not}
-use mathlib.Core.List.{List, [], _∷_}
+use mathlib.Core.List.{List, _∷_}
 use Rattle.rules.specs.declared.Kind.{Kind}
 use Rattle.rules.specs.declared.Outcome.{Outcome}
-use Rattle.rules.specs.declared.Outcome.the-variants.{R1, R2, N1, N2, N3, Ok}
+use Rattle.rules.specs.declared.Outcome.the-variants.{N3, Ok}
 use Rattle.rules.specs.Table.{Line, _gives_, firstOf}
-use Rattle.rules.specs.Board.{ours}
 use Rattle.rules.specs.Message.{Query, kindIn}
-use Rattle.rules.specs.Outcome.{View, roomTooSmall, lengthWrong, senderWrong, typeUnknown, outcomeOf}
+use Rattle.rules.specs.Outcome.{View, typeUnknown, outcomeOf}
 use Rattle.records.specs.Memory.{viewIn}
 use Rattle.operations.specs.declared.Decision.{Decision}
 use Rattle.operations.specs.Operation.{typeTable, rowIn, memoryAfter, decisionOn}
 
--- what a call is asked, with the answer room at hand
-abbrev pub query : ℕ → List ℕ → List ℕ → ℕ → Query
-query channel message status room = record { channel = channel; message = message; status = status; room = room }
-
--- the outcome table up to the sender, and from the type on
-unfoldable pub senderTable : Bool → Query → List (Line Outcome)
-senderTable listed q =
-    (roomTooSmall q gives R1)
-    ∷ (lengthWrong q gives R2)
-    ∷ (not listed gives N1)
-    ∷ (senderWrong ours q gives N2)
-    ∷ []
-
+-- the outcome table from the type on
 unfoldable pub kindTable : View → Query → Kind → List (Line Outcome)
 kindTable v q k = (typeUnknown k gives N3) ∷ typeTable v q k
 

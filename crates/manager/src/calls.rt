@@ -1,18 +1,11 @@
 // The list call and the message call. A message is tested by the outcome table of document 01, row by
 // row: first the rows that every message passes alike, then those of its type, which also change the
 // record. The answer is written last.
-ghost use mathlib.Core.Path.{_≡_};
-ghost use mathlib.Core.List.{[]};
 ghost use Rattle.rules.specs.declared.Outcome.the-variants.{Ok};
-ghost use Rattle.rules.specs.Table.{firstOf};
-ghost use Rattle.rules.specs.Board.{ours};
-ghost use Rattle.rules.specs.Outcome.{senderWrong};
-ghost use Rattle.access.specs.Memory.{listedIn};
 ghost use Rattle.operations.specs.Operation.{asked};
 ghost use Rattle.manager.specs.Calls.{lending, ListCall, MessageCall};
-ghost use Rattle.manager.specs.Decision.{query, senderTable, DecidesKind, Decides};
-use access::is_listed;
-use board::is_active;
+ghost use Rattle.screening.specs.Screened.{query};
+ghost use Rattle.manager.specs.Decision.{DecidesKind, Decides};
 use config::authenticated_boot;
 use config::set_config;
 use config::set_control;
@@ -27,40 +20,10 @@ use rules::Kind;
 use rules::Outcome;
 use rules::Report;
 use rules::Verdict;
+use screening::admit;
 use watch::get_status;
 use watch::wait_status;
-use wire::byte_at;
 use wire::u16_at;
-
-// N2: whether the channel host is unlike the header's host, or not one that sends.
-fn sender_wrong(channel: u8, message: &[u8]) -> bool
-    ensures { λ r. ⌜ r ≡ senderWrong ours (asked channel (now (message .entry)) []) ⌝ }
-{
-    if channel != byte_at(message, 2) {
-        return true;
-    }
-    !is_active(channel as u16)
-}
-
-// The rows R1 to N2, which come before the type; OK where all are passed.
-fn admit(access: &[u16], channel: u8, message: &[u8], room: usize) -> Outcome
-    ensures { λ r. ⌜ r ≡ firstOf Ok (senderTable (listedIn (now (access .entry))) (query channel (now (message .entry)) [] room)) ⌝ }
-{
-    let length = message.len();
-    if room < 29 {
-        return Outcome::R1;
-    }
-    if (length < 8) | (60 < length) {
-        return Outcome::R2;
-    }
-    if !is_listed(access) {
-        return Outcome::N1;
-    }
-    if sender_wrong(channel, message) {
-        return Outcome::N2;
-    }
-    Outcome::Ok
-}
 
 // The rows from N3 on, by the type, with the effect of OK.
 fn by_kind(

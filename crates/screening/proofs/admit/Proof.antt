@@ -1,12 +1,12 @@
--- `calls::admit` meets its contract: each test is a row of the outcome table up to the sender. Assumes nothing.
+-- `screening::admit` meets its contract: each test is a row of the outcome table up to the sender. Assumes nothing.
 use mathlib.Core.Path.{sym, _∙_}
 use borrow.Author.Tests.{lt-ltb, le-ltb, not-true, not-false}
 use Rattle.rules.specs.Table.{firstOf}
 use Rattle.rules.specs.Outcome.{senderWrong}
-use Rattle.manager.specs.Decision.{senderTable}
+use Rattle.screening.specs.Screened.{senderTable}
 use borrow.Author.Needs.{needs}
-use Rattle.manager.proofs.calls.admit.Statement.{statement}
-use Rattle.manager.proofs.calls.admit.Tie as tie
+use Rattle.screening.proofs.admit.Statement.{statement}
+use Rattle.screening.proofs.admit.Tie as tie
 
 returns : tie.Need-returns
 unfolding senderTable firstOf

@@ -1,12 +1,12 @@
--- `calls::sender_wrong` meets its contract: the header's host, then whether the channel host sends. Assumes nothing.
+-- `screening::sender_wrong` meets its contract: the header's host, then whether the channel host sends. Assumes nothing.
 use mathlib.Core.Path.{_≡_, refl, sym, _∙_}
 use mathlib.Core.Bool.{Bool, true, false, not, _||_}
 use borrow.Author.Tests.{eq-eqb, ne-eqb}
 use Rattle.rules.specs.Board.{ours, activeHost}
 use Rattle.rules.specs.Outcome.{senderWrong}
 use borrow.Author.Needs.{needs}
-use Rattle.manager.proofs.calls.sender_wrong.Statement.{statement}
-use Rattle.manager.proofs.calls.sender_wrong.Tie as tie
+use Rattle.screening.proofs.sender_wrong.Statement.{statement}
+use Rattle.screening.proofs.sender_wrong.Tie as tie
 
 -- whether it sends or not
 unlike : (sends same : Bool) → same ≡ false → true ≡ (not sends || not same)

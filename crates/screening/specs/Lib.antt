@@ -1,0 +1,2 @@
+-- The rows that come before the type.
+pub mod Screened

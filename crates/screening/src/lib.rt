@@ -1,0 +1,44 @@
+// The rows of document 01's outcome table that come before the type, R1 to N2: answer room, message
+// length, whether a list was accepted, and the sender. The rules are specs/Screened.antt.
+ghost use mathlib.Core.Path.{_≡_};
+ghost use mathlib.Core.List.{[]};
+ghost use Rattle.rules.specs.declared.Outcome.the-variants.{Ok};
+ghost use Rattle.rules.specs.Table.{firstOf};
+ghost use Rattle.rules.specs.Board.{ours};
+ghost use Rattle.rules.specs.Outcome.{senderWrong};
+ghost use Rattle.access.specs.Memory.{listedIn};
+ghost use Rattle.screening.specs.Screened.{query, senderTable};
+use access::is_listed;
+use board::is_active;
+use rules::Outcome;
+use wire::byte_at;
+
+// N2: whether the channel host is unlike the header's host, or not one that sends.
+fn sender_wrong(channel: u8, message: &[u8]) -> bool
+    ensures { λ r. ⌜ r ≡ senderWrong ours (query channel (now (message .entry)) [] 0) ⌝ }
+{
+    if channel != byte_at(message, 2) {
+        return true;
+    }
+    !is_active(channel as u16)
+}
+
+// The rows R1 to N2, which come before the type; OK where all are passed.
+pub fn admit(access: &[u16], channel: u8, message: &[u8], room: usize) -> Outcome
+    ensures { λ r. ⌜ r ≡ firstOf Ok (senderTable (listedIn (now (access .entry))) (query channel (now (message .entry)) [] room)) ⌝ }
+{
+    let length = message.len();
+    if room < 29 {
+        return Outcome::R1;
+    }
+    if (length < 8) | (60 < length) {
+        return Outcome::R2;
+    }
+    if !is_listed(access) {
+        return Outcome::N1;
+    }
+    if sender_wrong(channel, message) {
+        return Outcome::N2;
+    }
+    Outcome::Ok
+}
