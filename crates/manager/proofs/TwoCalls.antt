@@ -17,7 +17,7 @@ use Rattle.rules.specs.declared.Report.{Report}
 use Rattle.rules.specs.Table.{firstOf}
 use Rattle.rules.specs.Board.{ours, rows, rowOf, onBoard}
 use Rattle.rules.specs.AccessList.{accepted}
-use Rattle.rules.specs.Message.{Query, kindIn, subjectOf}
+use Rattle.rules.specs.Message.{Query, query, kindIn, subjectOf}
 use Rattle.rules.specs.Outcome.{View, admission, outcomeTable, outcomeOf, carriedOut}
 use Rattle.rules.specs.Effect.{effectOf, recordAfter}
 use Rattle.rules.specs.Answer.{ackBytes, bytesFor, answerBytes, answerOf, reportOf, bufferAfter}
@@ -34,7 +34,6 @@ use Rattle.operations.specs.declared.Decision.{Decision}
 use Rattle.operations.specs.Operation.{asked, rowIn, memoryAfter, decisionOn}
 use Rattle.replies.specs.Puts.{fitted, Puts}
 use Rattle.replies.proofs.Answers.{fitted-none, bytes-silent, bytes-short, bytes-after}
-use Rattle.screening.specs.Screened.{query}
 use Rattle.manager.specs.Decision.{Decides}
 use Rattle.manager.specs.Calls.{lending, MessageCall}
 

@@ -2,52 +2,17 @@
 // row: first the rows that every message passes alike, then those of its type, which also change the
 // record. The answer is written last.
 ghost use Rattle.rules.specs.declared.Outcome.the-variants.{Ok};
-ghost use Rattle.operations.specs.Operation.{asked};
 ghost use Rattle.manager.specs.Calls.{lending, ListCall, MessageCall};
-ghost use Rattle.screening.specs.Screened.{query};
-ghost use Rattle.manager.specs.Decision.{DecidesKind, Decides};
-use config::authenticated_boot;
-use config::set_config;
-use config::set_control;
-use control::handover;
-use control::release;
-use control::request;
-use messages::kind_of;
+ghost use Rattle.rules.specs.Message.{query};
+ghost use Rattle.manager.specs.Decision.{Decides};
+use dispatch::by_kind;
 use operations::Decision;
 use operations::unwaited;
 use replies::write_answer;
-use rules::Kind;
 use rules::Outcome;
 use rules::Report;
 use rules::Verdict;
 use screening::admit;
-use watch::get_status;
-use watch::wait_status;
-use wire::u16_at;
-
-// The rows from N3 on, by the type, with the effect of OK.
-fn by_kind(
-    access: &[u16],
-    records: &mut [u32],
-    channel: u8,
-    message: &[u8],
-    status: &[u32],
-) -> Decision
-    ensures { λ r. ⌜ DecidesKind (now (access .entry)) (now (records .entry)) (asked channel (now (message .entry)) (now (status .entry))) (now (records .exit)) r ⌝ }
-{
-    let kind = kind_of(u16_at(message, 0));
-    match kind {
-        Kind::Request => unwaited(request(access, records, channel, message)),
-        Kind::Release => unwaited(release(records, channel, message)),
-        Kind::Handover => unwaited(handover(access, records, channel, message)),
-        Kind::SetConfig => unwaited(set_config(records, channel, message)),
-        Kind::SetControl => unwaited(set_control(records, channel, message)),
-        Kind::AuthBoot => unwaited(authenticated_boot(message)),
-        Kind::GetStatus => unwaited(get_status(access, channel, message, status)),
-        Kind::WaitStatus => wait_status(access, channel, message, status),
-        Kind::Other => unwaited(Outcome::N3),
-    }
-}
 
 // What a message call comes to, by the whole table, with the effect of OK.
 fn decide(

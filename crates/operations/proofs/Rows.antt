@@ -14,7 +14,8 @@ use Rattle.rules.specs.declared.Outcome.the-variants.{N4, N5, N6, N7, N8, Ok}
 use Rattle.rules.specs.declared.Record.{Record}
 use Rattle.rules.specs.Table.{firstOf}
 use Rattle.rules.specs.Board.{ours, rows, rowOf, onBoard, classAt, classOf}
-use Rattle.rules.specs.Message.{Query, sizeOf, isKind, processorOf, subjectOf}
+use Rattle.rules.specs.Bytes.{u16At}
+use Rattle.rules.specs.Message.{Query, kindOf, kindIn, sizeOf, isKind, processorOf, subjectOf}
 use Rattle.rules.specs.Outcome.{View, tooShort, notOffered, hasRight, operandsGood, wordsMissing, waitFailed, byWords, carriedOut, outcomeNumber}
 use Rattle.rules.specs.Effect.{effectOf}
 use Rattle.rules.proofs.Tests.{cond-true, cond-false}
@@ -29,6 +30,10 @@ told-true is h = sym is ∙ not-false _ h
 
 pub told-false : {x t : Bool} → x ≡ t → not x ≡ true → t ≡ false
 told-false is h = sym is ∙ not-true _ h
+
+-- the type that the code has read
+pub told-kind : (m : List ℕ) {k r : Kind} {n : ℕ} → r ≡ kindOf n → n ≡ u16At m 0 → r ≡ k → kindIn m ≡ k
+told-kind m found read is = sym (found ∙ ap kindOf read) ∙ is
 
 -- ---- the board's rows, as the code tests them
 

@@ -11,7 +11,7 @@ use Rattle.rules.specs.declared.Outcome.the-variants.{N4, N5, N6, N7, N8, Ok}
 use Rattle.rules.specs.declared.Record.{Record}
 use Rattle.rules.specs.Table.{Line, _gives_, firstOf}
 use Rattle.rules.specs.Board.{ours, rowOf}
-use Rattle.rules.specs.Message.{Query, subjectOf, waitIn}
+use Rattle.rules.specs.Message.{Query, query, subjectOf, waitIn}
 use Rattle.rules.specs.Wait.{checksOf, microsOf}
 use Rattle.rules.specs.Outcome.{View, tooShort, notOffered, offBoard, hasRight, operandsGood, byWords, carriedOut}
 use Rattle.rules.specs.Effect.{effectOf}
@@ -32,7 +32,7 @@ typeTable v q k =
 
 -- what these rows ask of a message: the answer room is not among it
 abbrev pub asked : ℕ → List ℕ → List ℕ → Query
-asked channel message status = record { channel = channel; message = message; status = status; room = 0 }
+asked channel message status = query channel message status 0
 
 -- the row of the processor whose record the call works on
 abbrev pub rowIn : Query → ℕ

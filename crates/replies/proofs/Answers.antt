@@ -13,8 +13,7 @@ use Rattle.rules.specs.declared.Kind.the-variants.{Request, Release, Handover, 
 use Rattle.rules.specs.declared.Outcome.{Outcome}
 use Rattle.rules.specs.declared.Outcome.the-variants.{Ok}
 use Rattle.rules.specs.declared.Record.{Record}
-use Rattle.rules.specs.Bytes.{u16At}
-use Rattle.rules.specs.Message.{Query, answerAsked, isKind, kindOf, kindIn}
+use Rattle.rules.specs.Message.{Query, answerAsked, isKind, kindIn}
 use Rattle.rules.specs.Outcome.{outcomeNumber, carriedOut, silent}
 use Rattle.rules.specs.Effect.{effectOf}
 use Rattle.rules.specs.Answer.{ack, nak, statusBytes, statusNow, ackBytes, bytesFor, answerBytes, bufferAfter}
@@ -51,10 +50,6 @@ pub puts-same : {bytes bytes′ held held′ : List ℕ} {n : ℕ} → bytes ≡
 puts-same {held = held} {held′ = held′} {n = n} same puts = subst (λ (l : List ℕ). Puts l held held′ n) same puts
 
 -- ---- the bytes by case
-
--- the type that the code has read
-pub told-kind : (m : List ℕ) {k r : Kind} {n : ℕ} → r ≡ kindOf n → n ≡ u16At m 0 → r ≡ k → kindIn m ≡ k
-told-kind m found read is = sym (found ∙ ap kindOf read) ∙ is
 
 module _ (o : Outcome) (q : Query) (r : Record) where
   pub bytes-unasked : answerAsked (q .message) ≡ false → answerBytes o q r ≡ []

@@ -111,6 +111,9 @@ pub record Query : Type 0 where
   pub status : List ℕ
   pub room : ℕ
 
+abbrev pub query : ℕ → List ℕ → List ℕ → ℕ → Query
+query channel message status room = record { channel = channel; message = message; status = status; room = room }
+
 -- ---- which processor a message is about
 
 -- the types that have a processor field: all but authenticated boot

@@ -1,5 +1,4 @@
 -- "Outcomes, in the order they are tested", its rows R1 to N2, for a message from any channel. Assumes nothing.
-use Prim.Native.Nat.{ℕ}
 use mathlib.Core.Bool.{Bool, not}
 use mathlib.Core.List.{List, [], _∷_}
 use Rattle.rules.specs.declared.Outcome.{Outcome}
@@ -8,10 +7,6 @@ use Rattle.rules.specs.Table.{Line, _gives_}
 use Rattle.rules.specs.Board.{ours}
 use Rattle.rules.specs.Message.{Query}
 use Rattle.rules.specs.Outcome.{roomTooSmall, lengthWrong, senderWrong}
-
--- what a call is asked, with the answer room at hand
-abbrev pub query : ℕ → List ℕ → List ℕ → ℕ → Query
-query channel message status room = record { channel = channel; message = message; status = status; room = room }
 
 -- the outcome table up to the sender
 unfoldable pub senderTable : Bool → Query → List (Line Outcome)

@@ -5,7 +5,8 @@ use borrow.Author.Tests.{not-true, not-false}
 use types.Run.{miss}
 use denote.Ref.{now}
 use Rattle.rules.specs.Message.{subjectOf}
-use Rattle.replies.proofs.Answers.{told-kind, puts-none, puts-given, bytes-unasked, bytes-status, bytes-ack, not-status}
+use Rattle.operations.proofs.Rows.{told-kind}
+use Rattle.replies.proofs.Answers.{puts-none, puts-given, bytes-unasked, bytes-status, bytes-ack, not-status}
 use borrow.Author.Needs.{needs}
 use Rattle.replies.proofs.write_ack.Statement.{statement}
 use Rattle.replies.proofs.write_ack.Tie as tie

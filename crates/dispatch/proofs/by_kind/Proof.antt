@@ -1,13 +1,13 @@
--- `calls::by_kind` meets its contract: each arm is what the function of its type decides and leaves. Assumes nothing.
+-- `dispatch::by_kind` meets its contract: each arm is what the function of its type decides and leaves. Assumes nothing.
 use mathlib.Core.Path.{refl, subst⁻¹}
 use denote.Ref.{now}
 use Rattle.rules.specs.declared.Kind.the-variants.{Request, Release, Handover, SetConfig, SetControl}
-use Rattle.manager.specs.Decision.{DecidesKind}
-use Rattle.replies.proofs.Answers.{told-kind}
-use Rattle.manager.proofs.Tables.{carried, booted, status-read, status-awaited, unknown}
+use Rattle.dispatch.specs.Dispatched.{DecidesKind}
+use Rattle.operations.proofs.Rows.{told-kind}
+use Rattle.dispatch.proofs.Types.{carried, booted, status-read, status-awaited, unknown}
 use borrow.Author.Needs.{needs}
-use Rattle.manager.proofs.calls.by_kind.Statement.{statement}
-use Rattle.manager.proofs.calls.by_kind.Tie as tie
+use Rattle.dispatch.proofs.by_kind.Statement.{statement}
+use Rattle.dispatch.proofs.by_kind.Tie as tie
 
 u16-at-requires : tie.Need-u16-at-requires
 u16-at-requires c κs = search needs

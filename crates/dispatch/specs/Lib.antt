@@ -1,0 +1,2 @@
+-- The rows from the type on.
+pub mod Dispatched

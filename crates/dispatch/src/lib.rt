@@ -1,0 +1,42 @@
+// The rows of document 01's outcome table from N3 on: the type decides which function carries the
+// message out. Each type's function is in crate control, config or watch.
+ghost use Rattle.operations.specs.Operation.{asked};
+ghost use Rattle.dispatch.specs.Dispatched.{DecidesKind};
+use config::authenticated_boot;
+use config::set_config;
+use config::set_control;
+use control::handover;
+use control::release;
+use control::request;
+use messages::kind_of;
+use operations::Decision;
+use operations::unwaited;
+use rules::Kind;
+use rules::Outcome;
+use watch::get_status;
+use watch::wait_status;
+use wire::u16_at;
+
+// The rows from N3 on, by the type, with the effect of OK.
+pub fn by_kind(
+    access: &[u16],
+    records: &mut [u32],
+    channel: u8,
+    message: &[u8],
+    status: &[u32],
+) -> Decision
+    ensures { λ r. ⌜ DecidesKind (now (access .entry)) (now (records .entry)) (asked channel (now (message .entry)) (now (status .entry))) (now (records .exit)) r ⌝ }
+{
+    let kind = kind_of(u16_at(message, 0));
+    match kind {
+        Kind::Request => unwaited(request(access, records, channel, message)),
+        Kind::Release => unwaited(release(records, channel, message)),
+        Kind::Handover => unwaited(handover(access, records, channel, message)),
+        Kind::SetConfig => unwaited(set_config(records, channel, message)),
+        Kind::SetControl => unwaited(set_control(records, channel, message)),
+        Kind::AuthBoot => unwaited(authenticated_boot(message)),
+        Kind::GetStatus => unwaited(get_status(access, channel, message, status)),
+        Kind::WaitStatus => wait_status(access, channel, message, status),
+        Kind::Other => unwaited(Outcome::N3),
+    }
+}
