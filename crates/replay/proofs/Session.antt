@@ -1,13 +1,13 @@
--- A field carried out by its tag, the place of the next line, what a bad record ends, and bytes moved down. Assumes nothing.
-use Prim.Native.Nat.{ℕ, zero, suc, _+_, _-_, _≤_, _<_}
+-- A field carried out by its tag, the place of the next line, what a bad record ends, and what is left over. Assumes nothing.
+use Prim.Native.Nat.{ℕ, zero, suc, _+_, _-_, _≤_}
 use mathlib.Core.Path.{_≡_, refl, sym, ap, ap₂, _∙_, subst⁻¹}
 use mathlib.Core.Bool.{Bool, true, false, _&&_, not}
-use mathlib.Core.List.{List, [], _∷_, _++_}
-use native.Mathlib.Nat.{add-comm, zero-add, suc-add, add-sub-cancel-left}
+use mathlib.Core.List.{List, [], _∷_}
+use native.Mathlib.Nat.{zero-add, suc-add, add-sub-cancel-left}
 use native.Mathlib.Omega.{arith}
-use lib.ListN.{length, getD, set, take, drop, length-take, length-drop}
-use lib.Seq.{take-nil, take-suc, take-suc-set, drop-set-lt, drop-drop, getD-drop}
-use borrow.Author.Tests.{le-leb, lt-leb}
+use lib.ListN.{length, take, drop, length-take, length-drop}
+use lib.Seq.{take-nil}
+use borrow.Author.Tests.{le-leb, leb-true}
 use Rattle.rules.specs.Answer.{bufferAfter}
 use Rattle.fields.specs.declared.Found.the-variants.{Whole}
 use Rattle.fields.specs.Fields.{foundAt, wordsOf}
@@ -61,14 +61,14 @@ module _ (tag count : ℕ) (body access records words line : List ℕ) where
 -- ---- the place of the next line
 
 module _ (out : List ℕ) (used : ℕ) where
-  pub place-behind : 96 ≤ length out - used → used ≡ placeIn out used
-  place-behind h = rw (le-leb 96 (length out - used) h)
+  pub place-behind : roomLeft out used ≡ true → used ≡ placeIn out used
+  place-behind room = rw room
 
-  pub no-room-left : length out - used < 96 → roomLeft out used ≡ false
-  no-room-left h = lt-leb 96 (length out - used) h
+  pub behind-fits : used ≤ length out → roomLeft out used ≡ true → used + 96 ≤ length out
+  behind-fits inside room = let left = leb-true 96 (length out - used) room in omega arith
 
-  pub place-anew : length out - used < 96 → 0 ≡ placeIn out used
-  place-anew h = rw (no-room-left h)
+  pub place-anew : roomLeft out used ≡ false → 0 ≡ placeIn out used
+  place-anew gone = rw gone
 
   -- the rest of the buffer from a place on
   pub rest-long : used + 96 ≤ length out → 96 ≤ length (take (length out - used) (drop used out))
@@ -78,28 +78,6 @@ module _ (out : List ℕ) (used : ℕ) where
 
 pub bad-ends : (bad written goes is : Bool) → bad ≡ is → goes ≡ (not bad && written) → is ≡ true → goes ≡ false
 bad-ends bad written goes is same told yea = told ∙ ap (λ (b : Bool). not b && written) (same ∙ yea)
-
--- ---- one more byte moved down
-
-module _ (held now : List ℕ) (from n : ℕ) where
-  pub moved-more : from + n < length held → length now ≡ length held → take n now ≡ take n (drop from held) → drop n now ≡ drop n held
-      → take (suc n) (set now n (getD now (from + n) 0)) ≡ take (suc n) (drop from held)
-  moved-more inside size moved rest =
-      let byte : getD now (from + n) 0 ≡ getD (drop from held) n 0 =
-      ap (λ (k : ℕ). getD now k 0) (add-comm from n)
-      ∙ sym (getD-drop n now from 0)
-      ∙ ap (λ (l : List ℕ). getD l from 0) rest
-      ∙ getD-drop n held from 0
-      ∙ ap (λ (k : ℕ). getD held k 0) (add-comm n from)
-      ∙ sym (getD-drop from held n 0)
-      in
-      take-suc-set now n (getD now (from + n) 0) (omega arith)
-      ∙ ap₂ (λ (l : List ℕ) (x : ℕ). l ++ (x ∷ [])) moved byte
-      ∙ sym (take-suc (drop from held) n 0 (rw length-drop (omega arith)))
-
-  pub moved-rest : (x : ℕ) → drop n now ≡ drop n held → drop (n + 1) (set now n x) ≡ drop (n + 1) held
-  moved-rest x rest =
-      drop-set-lt (n + 1) now n x (omega arith) ∙ sym (drop-drop 1 n now) ∙ ap (drop 1) rest ∙ drop-drop 1 n held
 
 -- ---- fields in their order
 

@@ -6,7 +6,6 @@ use fields::Found;
 use fields::find;
 use fields::take_words;
 use io::write_all;
-use lines::ROOM;
 use lines::bad_line;
 use lines::cut_line;
 use recording::list_line;
@@ -17,9 +16,11 @@ use session::Written;
 use session::after_write;
 use session::both;
 use session::ended;
+use session::has_room;
 use session::is_bad;
+use session::move_down;
 ghost use Prim.Native.Nat.{_+_, _-_, _≤_};
-ghost use lib.ListN.{length, take, drop};
+ghost use lib.ListN.{length, take};
 ghost use mathlib.Core.Path.{_≡_};
 ghost use mathlib.Core.Bool.{true, false};
 ghost use Rattle.fields.specs.Fields.{foundAt};
@@ -73,7 +74,7 @@ fn make_room(out: &[u8], used: usize) -> Gathered
     ensures { λ r. ⌜ r .used + 96 ≤ length (now (out .entry)) ⌝ }
     ensures { λ r. ⌜ (roomLeft (now (out .entry)) used ≡ true → r .good ≡ true) ⌝ }
 {
-    if ROOM <= out.len() - used {
+    if has_room(out.len(), used) {
         return Gathered { used, good: true };
     }
     after_write(write_all(1, &out[..used]))
@@ -157,22 +158,6 @@ fn play(
         stand = played.words;
         at = end;
     }
-}
-
-// Moves the bytes of `buffer` from `from` up to `end` to its start, and gives their number.
-fn move_down(buffer: &mut [u8], from: usize, end: usize) -> usize
-    requires { ⌜ from ≤ end ⌝ }
-    requires { ⌜ end ≤ length (now buffer) ⌝ }
-    ensures { λ r. ⌜ r ≡ end - from ⌝ }
-    ensures { λ r. ⌜ take r (now (buffer .exit)) ≡ take r (drop from (now (buffer .entry))) ⌝ }
-{
-    let left = end - from;
-    let mut n = 0;
-    while n < left {
-        buffer[n] = buffer[from + n];
-        n += 1;
-    }
-    left
 }
 
 // Where a session stands between two reads: the bytes of the input that are left over, how many status

@@ -1,12 +1,14 @@
 -- `replay::play_held` meets its contract: what is not played is moved down. Assumes nothing.
 use Prim.Native.Nat.{ℕ, _≤_}
-use mathlib.Core.Path.{sym}
+use mathlib.Core.Path.{sym, _∙_}
 use mathlib.Core.List.{List}
 use native.Mathlib.Nat.{le-trans}
 use native.Mathlib.Omega.{arith}
 use lib.ListN.{length, take, length-take}
 use lib.Seq.{length-take-le}
+use borrow.Author.Tests.{le-leb}
 use denote.Ref.{now}
+use Rattle.rules.proofs.Tests.{cond-true}
 use Rattle.replay.proofs.Session.{left-over}
 use borrow.Author.Needs.{needs}
 use Rattle.replay.proofs.play_held.Statement.{statement}
@@ -25,7 +27,7 @@ play-requires : tie.Need-play-requires
 play-requires c κs = search needs
 
 move-down-requires : tie.Need-move-down-requires
-move-down-requires c κs = (le-trans (c .before .before .before .play .ensures .0 .0) (length-part _ _), search needs)
+move-down-requires c κs = search needs
 
 same-length : tie.Need-same-length
 same-length c = search needs
@@ -39,7 +41,9 @@ returns c =
     let played = c .before .before .before .before .before .before .play in
     let moved = c .before .before .move-down .ensures in
     let inside : played .result .at ≤ a .end = le-trans (played .ensures .0 .0) (length-part _ _) in
-    (left-over (now (a .input)) _ _ _ (a .end) (played .result .at) _ _ inside (moved .0) (played .ensures .1 .0) (moved .1) (played .ensures .1 .1), played .ensures .0 .1)
+    let whole : a .end ≤ length (now (a .input)) = omega arith in
+    let held = moved .0 ∙ cond-true _ _ (le-leb (a .end) (length (now (a .input))) whole) in
+    (left-over (now (a .input)) _ _ _ (a .end) (played .result .at) _ _ inside held (played .ensures .1 .0) (moved .1) (played .ensures .1 .1), played .ensures .0 .1)
 
 pub play-held-spec : {M : Type 1} → statement M
 play-held-spec =

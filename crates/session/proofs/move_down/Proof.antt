@@ -1,14 +1,15 @@
--- `replay::move_down` meets its contract. The loop's invariant: n bytes are moved, and those behind them stand as they stood.
+-- `session::move_down` meets its contract. The loop's invariant: n bytes are moved, and those behind them stand as they stood.
 -- Assumes nothing.
 use Prim.Native.Nat.{ℕ, _+_, _-_, _≤_}
 use mathlib.Core.Path.{_≡_, refl, sym, ap, _∙_}
 use native.Mathlib.Numerals.{add-one}
 use native.Mathlib.Omega.{arith}
 use lib.ListN.{length, getD, set, take, drop, length-set}
+use borrow.Author.Tests.{lt-leb, le-leb}
 use denote.Ref.{now}
-use Rattle.replay.proofs.Session.{moved-more, moved-rest}
-use Rattle.replay.proofs.move_down.Statement.{statement}
-use Rattle.replay.proofs.move_down.Tie as tie
+use Rattle.session.proofs.Moved.{moved-more, moved-rest}
+use Rattle.session.proofs.move_down.Statement.{statement}
+use Rattle.session.proofs.move_down.Tie as tie
 
 abbrev Inv-loop : tie.InvT-loop
 Inv-loop buffer₀ from end left n₀ buffer n =
@@ -17,8 +18,11 @@ Inv-loop buffer₀ from end left n₀ buffer n =
 abbrev μ-loop : tie.MeasureT-loop
 μ-loop buffer₀ from end left n₀ buffer n = left - n
 
-sub-left : tie.Need-sub-left Inv-loop μ-loop
-sub-left c = omega arith
+returns : tie.Need-returns Inv-loop μ-loop
+returns c = (rw (lt-leb _ _ (c .if1 .taken)), refl)
+
+returns-2 : tie.Need-returns-2 Inv-loop μ-loop
+returns-2 c = (rw (le-leb _ _ (c .before .if1 .left)) (omega arith), refl)
 
 loop-holds : tie.Need-loop-holds Inv-loop μ-loop
 loop-holds c = (omega arith, refl, refl, refl)
@@ -40,7 +44,7 @@ loop-less c = omega arith
 
 loop-again : tie.Need-loop-again Inv-loop μ-loop
 loop-again c =
-    let a = c .before .before .before .args in
+    let a = c .before .before .before .before .before .args in
     let l = c .before .before .loop in
     let held = now (a .buffer) in
     let x = getD (l .buffer) (a .from + l .n) 0 in (
@@ -55,12 +59,12 @@ loop-again c =
 same-length : tie.Need-same-length Inv-loop μ-loop
 same-length c = omega arith
 
-returns : tie.Need-returns Inv-loop μ-loop
-returns c =
+returns-3 : tie.Need-returns-3 Inv-loop μ-loop
+returns-3 c =
     let l = c .before .loop in
-    let a = c .before .before .args in
+    let a = c .before .before .before .before .args in
     let all : l .n ≡ a .end - a .from = omega arith in
-    (refl, rw all at (l .inv .2))
+    (rw (le-leb _ _ (c .before .before .before .if1 .left)), rw all at (l .inv .2))
 
 pub move-down-spec : {M : Type 1} → statement M
 move-down-spec =
@@ -68,7 +72,8 @@ move-down-spec =
     (tie.spec
     Inv-loop
     μ-loop
-    sub-left
+    returns
+    returns-2
     loop-holds
     add-buffer
     slice-read-buffer
@@ -77,4 +82,4 @@ move-down-spec =
     loop-less
     loop-again
     same-length
-    returns)
+    returns-3)
