@@ -1,18 +1,18 @@
-// Set config and set control: the boot vector and the flags of a processor; and authenticated boot.
+// Set config and set control: the boot vector and the flags of a processor.
 // Each function tests the rows of document 01's outcome table from N4 on, in its order; the rows above
 // are passed when it is called. OK changes the record in the lent memory, and a refusal leaves it.
 ghost use mathlib.Core.List.{[]};
 ghost use Rattle.rules.specs.declared.Kind.the-variants.{SetConfig, SetControl};
-ghost use Rattle.operations.specs.Operation.{asked, CarriesByController, RefusesBoot};
+ghost use Rattle.operations.specs.Operation.{asked, CarriesByController};
 use board::ROWS;
 use board::class_at;
+use effects::with_config;
+use effects::with_control;
+use operands::config_good;
+use operands::control_good;
 use operations::row_in;
 use records::load;
 use records::store;
-use records::with_config;
-use records::with_control;
-use rights::config_good;
-use rights::control_good;
 use rights::is_controller;
 use rules::Outcome;
 
@@ -59,14 +59,4 @@ pub fn set_control(records: &mut [u32], channel: u8, message: &[u8]) -> Outcome
     }
     store(records, row, with_control(message, state));
     Outcome::Ok
-}
-
-// Authenticated boot: not offered on this general-purpose part.
-pub fn authenticated_boot(message: &[u8]) -> Outcome
-    ensures { λ r. ⌜ RefusesBoot (now (message .entry)) r ⌝ }
-{
-    if message.len() < 16 {
-        return Outcome::N4;
-    }
-    Outcome::N5
 }

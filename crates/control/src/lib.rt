@@ -1,19 +1,17 @@
-// Request, release and handover: who controls a processor. Each function tests the rows of document
+// Request and release: who controls a processor. Each function tests the rows of document
 // 01's outcome table from N4 on, in its order; the rows above are passed when it is called. OK changes
 // the record in the lent memory, and a refusal leaves it.
 ghost use mathlib.Core.List.{[]};
-ghost use Rattle.rules.specs.declared.Kind.the-variants.{Request, Release, Handover};
+ghost use Rattle.rules.specs.declared.Kind.the-variants.{Request, Release};
 ghost use Rattle.operations.specs.Operation.{asked, Carries, CarriesByController};
-use access::is_permitted;
 use board::ROWS;
+use effects::held_by;
 use operations::row_in;
-use records::held_by;
 use records::load;
 use records::store;
 use rights::is_controller;
 use rights::may_request;
 use rules::Outcome;
-use wire::byte_at;
 
 // Request: the processor is free and the sender permitted, or the sender is its recovery master. The
 // sender controls.
@@ -51,28 +49,5 @@ pub fn release(records: &mut [u32], channel: u8, message: &[u8]) -> Outcome
         return Outcome::N7;
     }
     store(records, row, held_by(0, state));
-    Outcome::Ok
-}
-
-// Handover: the sender is the controller, and the new host is permitted. The new host controls.
-pub fn handover(access: &[u16], records: &mut [u32], channel: u8, message: &[u8]) -> Outcome
-    ensures { λ r. ⌜ Carries Handover (now (access .entry)) (now (records .entry)) (asked channel (now (message .entry)) []) (now (records .exit)) r ⌝ }
-{
-    if message.len() < 10 {
-        return Outcome::N4;
-    }
-    let row = row_in(message);
-    if ROWS <= row {
-        return Outcome::N6;
-    }
-    let state = load(records, row);
-    if !is_controller(state, channel) {
-        return Outcome::N7;
-    }
-    let host = byte_at(message, 9);
-    if !is_permitted(access, row, host as u16) {
-        return Outcome::N8;
-    }
-    store(records, row, held_by(host, state));
     Outcome::Ok
 }

@@ -1,20 +1,20 @@
 // The rows of document 01's outcome table from N3 on: the type decides which function carries the
-// message out. Each type's function is in crate control, config or watch.
+// message out. Each type's function is in crate control, handover, config, boot, watch or waits.
 ghost use Rattle.operations.specs.Operation.{asked};
 ghost use Rattle.dispatch.specs.Dispatched.{DecidesKind};
-use config::authenticated_boot;
+use boot::authenticated_boot;
 use config::set_config;
 use config::set_control;
-use control::handover;
 use control::release;
 use control::request;
+use handover::handover;
 use messages::kind_of;
 use operations::Decision;
 use operations::unwaited;
 use rules::Kind;
 use rules::Outcome;
+use waits::wait_status;
 use watch::get_status;
-use watch::wait_status;
 use wire::u16_at;
 
 // The rows from N3 on, by the type, with the effect of OK.

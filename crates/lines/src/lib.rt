@@ -7,8 +7,8 @@ ghost use lib.Dec.{leb};
 ghost use Prim.Native.Nat.{_+_, _*_, _≤_, _<_};
 ghost use lib.ListN.{length};
 ghost use Rattle.lines.specs.Lines.{outcomeName, decimalOf, glyph as digit, hexOf, answerText, verdictText, listLine, outcomeText, messageLine, badLine, cutLine, laid, hasRoom, printed, Printed};
-use messages::outcome_number;
-use messages::verdict_number;
+use numbers::outcome_number;
+use numbers::verdict_number;
 use rules::Report;
 use rules::Verdict;
 

@@ -6,8 +6,8 @@ ghost use Rattle.manager.specs.Calls.{lending};
 ghost use Rattle.pomrozek.specs.Exported.{ExportedList, ExportedMessage};
 use manager::message;
 use manager::offer_list;
-use messages::outcome_number;
-use messages::verdict_number;
+use numbers::outcome_number;
+use numbers::verdict_number;
 
 // Offers an access list and gives the verdict's number: 0 accepted, k for Ak.
 #[no_mangle]

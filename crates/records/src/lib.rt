@@ -1,11 +1,44 @@
-// The processors' records: loaded from the lent record memory, changed by the effect of OK, and stored
-// again, one record by value.
-mod effects;
-mod memory;
+// The processors' records: one record by value, out of the lent record memory and back into it. Its
+// layout is specs/Memory.antt; any content of it is a state.
+ghost use mathlib.Core.Path.{_≡_};
+ghost use lib.ListN.{getD};
+ghost use Rattle.records.specs.Memory.{recordAt, withRecord};
+use rules::Record;
 
-pub use effects::held_by;
-pub use effects::new_word;
-pub use effects::with_config;
-pub use effects::with_control;
-pub use memory::load;
-pub use memory::store;
+// The word at place `i`; past the end there are zeros.
+fn word_at(records: &[u32], i: usize) -> u32
+    ensures { λ r. ⌜ r ≡ getD (now (records .entry)) i 0 ⌝ }
+{
+    if i < records.len() {
+        return records[i];
+    }
+    0
+}
+
+// The record at `row`.
+pub fn load(records: &[u32], row: u8) -> Record
+    ensures { λ r. ⌜ r ≡ recordAt (now (records .entry)) row ⌝ }
+{
+    let at = 5 * (row as usize);
+    Record {
+        controller: word_at(records, at),
+        low: word_at(records, at + 1),
+        high: word_at(records, at + 2),
+        config: word_at(records, at + 3),
+        control: word_at(records, at + 4),
+    }
+}
+
+// Puts a record at `row`. A row that is not there is left alone.
+pub fn store(records: &mut [u32], row: u8, state: Record)
+    ensures { λ _. ⌜ now (records .exit) ≡ withRecord (now (records .entry)) row state ⌝ }
+{
+    let at = 5 * (row as usize);
+    if at + 4 < records.len() {
+        records[at] = state.controller;
+        records[at + 1] = state.low;
+        records[at + 2] = state.high;
+        records[at + 3] = state.config;
+        records[at + 4] = state.control;
+    }
+}

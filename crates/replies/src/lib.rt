@@ -15,7 +15,7 @@ use answers::put;
 use answers::status_answer;
 use messages::answer_asked;
 use messages::kind_of;
-use messages::outcome_number;
+use numbers::outcome_number;
 use operations::row_in;
 use records::load;
 use rules::Kind;

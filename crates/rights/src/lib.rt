@@ -1,11 +1,30 @@
-// N7 and N8 of document 01: whether a sender has the right that its message asks for, and whether the
-// message's operands are right. Each function gives what the definition of that name gives.
-mod operands;
-mod rights;
+// N7 of document 01: whether a sender has the right that its message asks for, by the entry and the
+// record of the processor that it names. Each function gives what the definition of that name gives.
+ghost use mathlib.Core.Path.{_≡_};
+ghost use Rattle.rules.specs.Board.{ours};
+ghost use Rattle.rules.specs.Outcome.{mayRequest, isController};
+ghost use Rattle.access.specs.Memory.{entryAt};
+use access::is_master;
+use access::is_permitted;
+use rules::Record;
 
-pub use operands::config_good;
-pub use operands::control_good;
-pub use operands::flags_good;
-pub use operands::wait_good;
-pub use rights::is_controller;
-pub use rights::may_request;
+// Whether `host` controls the processor.
+pub fn is_controller(state: Record, host: u8) -> bool
+    ensures { λ r. ⌜ r ≡ isController state host ⌝ }
+{
+    state.controller == host as u32
+}
+
+// Whether `host` may request the processor: it is free and the host permitted, or the host is its
+// recovery master, also where another controls it.
+pub fn may_request(access: &[u16], row: u8, state: Record, host: u8) -> bool
+    ensures { λ r. ⌜ r ≡ mayRequest ours (entryAt (now (access .entry)) row) state host ⌝ }
+{
+    if is_master(access, row, host as u16) {
+        return true;
+    }
+    if state.controller != 0 {
+        return false;
+    }
+    is_permitted(access, row, host as u16)
+}

@@ -1,0 +1,38 @@
+// Handover: the controller gives a processor to another host. The function tests the rows of document
+// 01's outcome table from N4 on, in its order; the rows above are passed when it is called. OK changes
+// the record in the lent memory, and a refusal leaves it.
+ghost use mathlib.Core.List.{[]};
+ghost use Rattle.rules.specs.declared.Kind.the-variants.{Handover};
+ghost use Rattle.operations.specs.Operation.{asked, Carries};
+use access::is_permitted;
+use board::ROWS;
+use effects::held_by;
+use operations::row_in;
+use records::load;
+use records::store;
+use rights::is_controller;
+use rules::Outcome;
+use wire::byte_at;
+
+// Handover: the sender is the controller, and the new host is permitted. The new host controls.
+pub fn handover(access: &[u16], records: &mut [u32], channel: u8, message: &[u8]) -> Outcome
+    ensures { λ r. ⌜ Carries Handover (now (access .entry)) (now (records .entry)) (asked channel (now (message .entry)) []) (now (records .exit)) r ⌝ }
+{
+    if message.len() < 10 {
+        return Outcome::N4;
+    }
+    let row = row_in(message);
+    if ROWS <= row {
+        return Outcome::N6;
+    }
+    let state = load(records, row);
+    if !is_controller(state, channel) {
+        return Outcome::N7;
+    }
+    let host = byte_at(message, 9);
+    if !is_permitted(access, row, host as u16) {
+        return Outcome::N8;
+    }
+    store(records, row, held_by(host, state));
+    Outcome::Ok
+}

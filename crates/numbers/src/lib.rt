@@ -1,0 +1,45 @@
+// The numbers of outcomes and verdicts, for the log, the printed lines and the callers in C. The rules are
+// `outcomeNumber` and `verdictNumber` in rules/specs.
+ghost use mathlib.Core.Path.{_≡_};
+ghost use Rattle.rules.specs.AccessList.{verdictNumber};
+ghost use Rattle.rules.specs.Outcome.{outcomeNumber};
+use rules::Outcome;
+use rules::Verdict;
+
+// Document 01's number of an outcome: 0 for OK, k for Nk, 100 + k for Rk.
+pub fn outcome_number(outcome: Outcome) -> u32
+    ensures { λ r. ⌜ r ≡ outcomeNumber outcome ⌝ }
+{
+    match outcome {
+        Outcome::R1 => 101,
+        Outcome::R2 => 102,
+        Outcome::N1 => 1,
+        Outcome::N2 => 2,
+        Outcome::N3 => 3,
+        Outcome::N4 => 4,
+        Outcome::N5 => 5,
+        Outcome::N6 => 6,
+        Outcome::N7 => 7,
+        Outcome::N8 => 8,
+        Outcome::R3 => 103,
+        Outcome::N9 => 9,
+        Outcome::Ok => 0,
+    }
+}
+
+// Document 01's number of a verdict: 0 for an accepted list, k for Ak.
+pub fn verdict_number(verdict: Verdict) -> u32
+    ensures { λ r. ⌜ r ≡ verdictNumber verdict ⌝ }
+{
+    match verdict {
+        Verdict::Accepted => 0,
+        Verdict::A1 => 1,
+        Verdict::A2 => 2,
+        Verdict::A3 => 3,
+        Verdict::A4 => 4,
+        Verdict::A5 => 5,
+        Verdict::A6 => 6,
+        Verdict::A7 => 7,
+        Verdict::A8 => 8,
+    }
+}

@@ -1,0 +1,91 @@
+-- `memory::store` meets its contract. Assumes nothing.
+use borrow.Author.Tests.{lt-ltb, le-ltb}
+use Rattle.records.specs.Memory.{withRecord}
+use native.Mathlib.Omega.{arith}
+use lib.ListN.{length-set}
+use borrow.Author.Needs.{needs}
+use Rattle.records.proofs.store.Statement.{statement}
+use Rattle.records.proofs.store.Tie as tie
+
+mul-at : tie.Need-mul-at
+mul-at c = search needs
+
+add-if1 : tie.Need-add-if1
+add-if1 c = search needs
+
+mul-records : tie.Need-mul-records
+mul-records c = search needs
+
+slice-write-records : tie.Need-slice-write-records
+slice-write-records c = search needs
+
+add-records : tie.Need-add-records
+add-records c = search needs
+
+mul-records-2 : tie.Need-mul-records-2
+mul-records-2 c = search needs
+
+slice-write-records-2 : tie.Need-slice-write-records-2
+slice-write-records-2 c = simp length-set (omega arith)
+
+add-records-2 : tie.Need-add-records-2
+add-records-2 c = search needs
+
+mul-records-3 : tie.Need-mul-records-3
+mul-records-3 c = search needs
+
+slice-write-records-3 : tie.Need-slice-write-records-3
+slice-write-records-3 c = simp length-set (omega arith)
+
+add-records-3 : tie.Need-add-records-3
+add-records-3 c = search needs
+
+mul-records-4 : tie.Need-mul-records-4
+mul-records-4 c = search needs
+
+slice-write-records-4 : tie.Need-slice-write-records-4
+slice-write-records-4 c = simp length-set (omega arith)
+
+add-records-4 : tie.Need-add-records-4
+add-records-4 c = search needs
+
+mul-records-5 : tie.Need-mul-records-5
+mul-records-5 c = search needs
+
+slice-write-records-5 : tie.Need-slice-write-records-5
+slice-write-records-5 c = simp length-set (omega arith)
+
+same-length : tie.Need-same-length
+same-length c = simp length-set
+
+returns : tie.Need-returns
+unfolding withRecord
+returns c = rw (lt-ltb _ _ (c .if1 .taken))
+
+returns-2 : tie.Need-returns-2
+unfolding withRecord
+returns-2 c = rw (le-ltb _ _ (c .if1 .left))
+
+pub store-spec : {M : Type 1} → statement M
+store-spec =
+    tie.close
+    (tie.spec
+    mul-at
+    add-if1
+    mul-records
+    slice-write-records
+    add-records
+    mul-records-2
+    slice-write-records-2
+    add-records-2
+    mul-records-3
+    slice-write-records-3
+    add-records-3
+    mul-records-4
+    slice-write-records-4
+    add-records-4
+    mul-records-5
+    slice-write-records-5
+    same-length
+    returns
+    returns-2)

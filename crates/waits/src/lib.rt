@@ -1,0 +1,69 @@
+// Wait status. The function tests the rows of document 01's outcome table from N4 on, in its order; the
+// rows above are passed when it is called. No record changes, so it gets none.
+ghost use Prim.Native.Nat.{_+_, _*_};
+ghost use mathlib.Core.Path.{_≡_};
+ghost use mathlib.Core.Bool.{cond};
+ghost use Rattle.rules.specs.declared.Outcome.the-variants.{N9, Ok};
+ghost use Rattle.rules.specs.Wait.{ranOut, checksOf, microsOf};
+ghost use Rattle.operations.specs.Operation.{asked, WaitsForStatus};
+use access::is_permitted;
+use board::ROWS;
+use messages::wait_in;
+use operands::wait_good;
+use operations::Decision;
+use operations::row_in;
+use operations::unwaited;
+use rules::Outcome;
+use rules::Wait;
+use status::ending_check;
+
+// The microseconds of a wait: at most 65,280.
+fn micros(before: u8, delay: u8, checks: u8) -> u32
+    ensures { λ r. ⌜ r ≡ before + delay * checks ⌝ }
+{
+    before as u32 + delay as u32 * checks as u32
+}
+
+// What a wait comes to, OK or N9, with the checks that it really took.
+fn waited(w: Wait, status: &[u32]) -> Decision
+    ensures { λ r. ⌜ r ≡ record { outcome = cond (ranOut w (now (status .entry))) N9 Ok; checks = checksOf w (now (status .entry)); micros = microsOf w (now (status .entry)) } ⌝ }
+{
+    let ended = ending_check(w, status);
+    if ended == 0 {
+        return Decision {
+            outcome: Outcome::N9,
+            checks: w.waits as u32,
+            micros: micros(w.before, w.delay, w.waits),
+        };
+    }
+    Decision {
+        outcome: Outcome::Ok,
+        checks: ended as u32,
+        micros: micros(w.before, w.delay, ended as u8),
+    }
+}
+
+// Wait status: the sender is permitted, the wait asks for something, and there are as many status
+// words as it may check. No record changes.
+pub fn wait_status(access: &[u16], channel: u8, message: &[u8], status: &[u32]) -> Decision
+    ensures { λ r. ⌜ WaitsForStatus (now (access .entry)) (asked channel (now (message .entry)) (now (status .entry))) r ⌝ }
+{
+    if message.len() < 29 {
+        return unwaited(Outcome::N4);
+    }
+    let row = row_in(message);
+    if ROWS <= row {
+        return unwaited(Outcome::N6);
+    }
+    if !is_permitted(access, row, channel as u16) {
+        return unwaited(Outcome::N7);
+    }
+    let w = wait_in(message);
+    if !wait_good(w) {
+        return unwaited(Outcome::N8);
+    }
+    if status.len() < w.waits as usize {
+        return unwaited(Outcome::R3);
+    }
+    waited(w, status)
+}
