@@ -23,7 +23,7 @@ use rules::Outcome;
 use wire::u16_at;
 
 // The first status word, which is the status now; 0 where there is none.
-pub fn status_now(status: &[u32]) -> u32
+fn status_now(status: &[u32]) -> u32
     ensures { λ r. ⌜ r ≡ getD (now (status .entry)) 0 0 ⌝ }
 {
     if 0 < status.len() {
