@@ -1,19 +1,20 @@
 -- What stands at a place of a buffer, by the tests that lead there. Assumes nothing.
-use Prim.Native.Nat.{ℕ, _+_, _-_, _%_, _≤_, _<_}
+use Prim.Native.Nat.{ℕ, _+_, _-_, _≤_, _<_}
 use mathlib.Core.Path.{_≡_, refl, sym, ap, _∙_}
 use mathlib.Core.Logic.{⊎-elim}
-use mathlib.Core.Bool.{Bool, true, false, _&&_, _||_}
+use mathlib.Core.Bool.{Bool, true, false}
 use mathlib.Core.List.{List}
 use native.Mathlib.Omega.{arith}
 use lib.ListN.{length}
-use lib.Dec.{eqb, leb, ltb}
+use lib.Dec.{eqb, ltb}
 use borrow.Author.Tests.{eq-eqb, ne-eqb, lt-ltb, le-ltb, ltb-true, ltb-false}
 use Rattle.rules.specs.Table.{firstOf}
 use Rattle.rules.specs.Bytes.{byteAt, u16At}
 use Rattle.rules.proofs.Tests.{decide, clash}
+use Rattle.tags.specs.Tags.{tagGood, lengthGood}
 use Rattle.fields.specs.declared.Found.{Found}
 use Rattle.fields.specs.declared.Found.the-variants.{Whole, Bad, Partial, Nothing}
-use Rattle.fields.specs.Fields.{tagGood, lengthGood, left, foundAt}
+use Rattle.fields.specs.Fields.{left, foundAt}
 
 module _ (buffer : List ℕ) (at : ℕ) where
   pub finds-nothing : length buffer ≤ at → Nothing ≡ foundAt buffer at
@@ -92,44 +93,3 @@ whole-ends buffer at tag n e = ⊎-elim here (λ f. other Nothing refl (finds-no
     here y =
         ⊎-elim (tagged (ltb-true at (length buffer) y)) (λ f. other Bad refl (finds-bad-tag buffer at (ltb-true at (length buffer) y) f))
         (decide (tagGood (byteAt buffer at)))
-
--- ---- which lengths are good, by the tag
-
-list-lengths : (x y z w : Bool) → x ≡ (x && true || y && z && false || w && x && false)
-list-lengths true y z w = refl
-list-lengths false true true true = refl
-list-lengths false true true false = refl
-list-lengths false true false true = refl
-list-lengths false true false false = refl
-list-lengths false false z true = refl
-list-lengths false false z false = refl
-
-pub list-length-good : (tag n : ℕ) → tag ≡ 1 → leb n 512 ≡ lengthGood tag n
-list-length-good tag n e = rw e (list-lengths (leb n 512) (leb n 1020) (eqb (n % 4) 0) (leb 1 n))
-
-words-lengths : (x y z w : Bool) → (y && z) ≡ (x && false || y && z && true || w && x && false)
-words-lengths true true true w = refl
-words-lengths true true false true = refl
-words-lengths true true false false = refl
-words-lengths true false z true = refl
-words-lengths true false z false = refl
-words-lengths false true true w = refl
-words-lengths false true false true = refl
-words-lengths false true false false = refl
-words-lengths false false z true = refl
-words-lengths false false z false = refl
-
-pub words-length-good : (tag n : ℕ) → tag ≡ 2 → (leb n 1020 && eqb (n % 4) 0) ≡ lengthGood tag n
-words-length-good tag n e = rw e (words-lengths (leb n 512) (leb n 1020) (eqb (n % 4) 0) (leb 1 n))
-
-other-lengths : (x y z w : Bool) (three : Bool) → (w && x && three) ≡ (x && false || y && z && false || w && x && three)
-other-lengths true true true w three = refl
-other-lengths true true false w three = refl
-other-lengths true false z w three = refl
-other-lengths false true true w three = refl
-other-lengths false true false w three = refl
-other-lengths false false z w three = refl
-
-pub message-length-good : (tag n : ℕ) → (tag ≡ 1 → ⊥) → (tag ≡ 2 → ⊥) → (leb 1 n && leb n 512 && eqb tag 3) ≡ lengthGood tag n
-message-length-good tag n a b =
-    rw (ne-eqb tag 1 a, ne-eqb tag 2 b) (other-lengths (leb n 512) (leb n 1020) (eqb (n % 4) 0) (leb 1 n) (eqb tag 3))

@@ -1,3 +1,2 @@
--- What the proofs of this crate share.
+-- What the proofs of this crate and of those above it share.
 pub mod Finds
-pub mod Words

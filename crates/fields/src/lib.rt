@@ -1,11 +1,9 @@
-// A recording's fields: what stands at a place of a buffer, and the status words that a field holds.
-// The rules are specs/Fields.antt.
+// A recording's fields: what stands at a place of a buffer. The rule is specs/Fields.antt.
 ghost use mathlib.Core.Path.{_≡_};
-ghost use Prim.Native.Nat.{_≤_, _<_};
-ghost use lib.ListN.{length, take};
-ghost use Rattle.rules.specs.Answer.{bufferAfter};
-ghost use Rattle.fields.specs.Fields.{tagGood, lengthGood, foundAt, wordsOf};
-use wire::joined;
+ghost use Prim.Native.Nat.{_<_};
+ghost use Rattle.fields.specs.Fields.{foundAt};
+use tags::length_good;
+use tags::tag_good;
 
 // What stands at a place of a buffer.
 pub enum Found {
@@ -24,26 +22,6 @@ fn wide(byte: u8) -> u16
     ensures { λ r. ⌜ (r ≡ byte) × (r < 256) ⌝ }
 {
     byte as u16
-}
-
-// Whether a tag is one of the three.
-fn tag_good(tag: u8) -> bool
-    ensures { λ r. ⌜ r ≡ tagGood tag ⌝ }
-{
-    (tag == 1) | (tag == 2) | (tag == 3)
-}
-
-// Whether a field of this tag may have this length.
-fn length_good(tag: u8, length: u16) -> bool
-    ensures { λ r. ⌜ r ≡ lengthGood tag length ⌝ }
-{
-    if tag == 1 {
-        return length <= 512;
-    }
-    if tag == 2 {
-        return (length <= 1020) & (length % 4 == 0);
-    }
-    (1 <= length) & (length <= 512) & (tag == 3)
 }
 
 // What stands at place `at` of the buffer.
@@ -70,25 +48,4 @@ pub fn find(buffer: &[u8], at: usize) -> Found
         return Found::Partial;
     }
     Found::Whole(tag, length)
-}
-
-// Takes the status words of a field's body to the start of `words`, as many as there is room for, and
-// gives their number. A body of 1,020 bytes fills it.
-pub fn take_words(body: &[u8], words: &mut [u32; 255]) -> usize
-    ensures { λ r. ⌜ r ≡ length (take 255 (wordsOf (now (body .entry)))) ⌝ }
-    ensures { λ r. ⌜ r ≤ 255 ⌝ }
-    ensures { λ _. ⌜ now (words .exit) ≡ bufferAfter (take 255 (wordsOf (now (body .entry)))) (now (words .entry)) ⌝ }
-{
-    let memory = &mut words[..];
-    let whole = body.len() / 4;
-    let mut i = 0;
-    while i < whole {
-        if i == 255 {
-            return i;
-        }
-        let at = 4 * i;
-        memory[i] = joined(body[at], body[at + 1], body[at + 2], body[at + 3]);
-        i += 1;
-    }
-    i
 }

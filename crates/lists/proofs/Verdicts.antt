@@ -1,71 +1,30 @@
 -- Laws of the judge: what one entry comes to, what is left after it, and what an accepted list is. Assumes nothing.
-use Prim.Native.Nat.{ℕ, zero, suc, _+_, _*_, _-_, _<_, _≤_}
-use native.Mathlib.Nat.{add-zero, add-sub-cancel-left}
+use Prim.Native.Nat.{ℕ, zero, suc, _+_, _*_, _-_, _<_}
+use native.Mathlib.Nat.{add-sub-cancel-left}
 use native.Mathlib.Numerals.{add-one}
 use native.Mathlib.Omega.{arith}
-use mathlib.Core.Path.{_≡_, refl, sym, ap, subst, _∙_}
-use mathlib.Core.Bool.{Bool, true, false, cond, not, _&&_, _||_, and-false}
+use mathlib.Core.Path.{_≡_, refl, sym, ap, _∙_}
+use mathlib.Core.Bool.{Bool, true, false, cond, not, _||_}
 use mathlib.Core.List.{List, [], _∷_, map}
 use mathlib.Core.Logic.{⊎-elim}
 use types.Run.{OneOf}
-use lib.ListN.{length, getD, take, drop}
-use lib.Seq.{getD-take, getD-drop}
+use lib.ListN.{length, take, drop}
 use lib.Dec.{eqb}
-use borrow.Author.Tests.{le-ltb, lt-ltb, eqb-true, ne-eqb}
+use borrow.Author.Tests.{eqb-true, ne-eqb}
 use Rattle.rules.specs.declared.Verdict.{Verdict}
 use Rattle.rules.specs.declared.Verdict.the-variants.{Accepted, A1, A2, A3, A4, A5, A6, A7, A8}
 use Rattle.rules.specs.Table.{firstOf, anyOf}
-use Rattle.rules.specs.Bytes.{byteAt, u16At}
-use Rattle.rules.specs.Board.{ours, boardHost, activeHost, rows, rowOf, onBoard}
-use Rattle.rules.specs.AccessList.{partAt, partsFrom, processorIn, masterIn, secondariesIn, used, namedIn, badSecondary, entryTable, entriesTable, listTable, verdictOf, accepted}
+use Rattle.rules.specs.Bytes.{u16At}
+use Rattle.rules.specs.Board.{ours, boardHost, activeHost, onBoard}
+use Rattle.rules.specs.AccessList.{partAt, partsFrom, processorIn, masterIn, secondariesIn, namedIn, badSecondary, entryTable, entriesTable, listTable, verdictOf, accepted}
 use Rattle.rules.proofs.Tests.{decide, firstOf-append}
-use Rattle.lists.specs.Judged.{partsBefore, faultOf, badFrom, verdictFrom}
+use Rattle.entries.specs.Entries.{partsBefore, writtenIn, faultOf}
+use Rattle.entries.proofs.Faults.{written-named}
+use Rattle.lists.specs.Judged.{badFrom, verdictFrom}
 
 -- entry e's part, as the code cuts it out
 pub part-is : (list : List ℕ) (e : ℕ) → take (4 + 9 * e + 9 - (4 + 9 * e)) (drop (4 + 9 * e) list) ≡ partAt list e
 part-is list e = ap (λ (n : ℕ). take n (drop (4 + 9 * e) list)) (add-sub-cancel-left (4 + 9 * e) 9)
-
--- ---- A6: the entries before
-
--- an entry's processor is its first byte
-processor-at : (list : List ℕ) (e : ℕ) → processorIn (partAt list e) ≡ byteAt list (4 + 9 * e)
-processor-at list e =
-    getD-take 9 (drop (4 + 9 * e) list) 0 0 (omega arith)
-    ∙ getD-drop (4 + 9 * e) list 0 0
-    ∙ ap (λ (i : ℕ). getD list i 0) (add-zero (4 + 9 * e))
-
--- an entry that names a processor but 0 is used
-used-names : (part : List ℕ) (p : ℕ) → 0 < p → (used part && eqb (processorIn part) p) ≡ eqb (processorIn part) p
-used-names part p some =
-    ⊎-elim
-    (λ (t : eqb (processorIn part) p ≡ true).
-    let is = eqb-true (processorIn part) p t in rw (ne-eqb (processorIn part) 0 (λ z. omega (arith, is, z))))
-    (λ (f : eqb (processorIn part) p ≡ false). rw f (and-false (used part)))
-    (decide (eqb (processorIn part) p))
-
--- the newest of the entries before i, where j is one less
-pub named-newest : (list : List ℕ) (i j p : ℕ) → 0 < p → i ≡ suc j
-    → namedIn (partsBefore list i) p ≡ (eqb (byteAt list (4 + 9 * j)) p || namedIn (partsBefore list j) p)
-unfolding namedIn anyOf partsBefore
-named-newest list i j p some next =
-    ap (λ (n : ℕ). namedIn (partsBefore list n) p) next
-    ∙ ap (λ (t : Bool). t || namedIn (partsBefore list j) p) (used-names (partAt list j) p some)
-    ∙ ap (λ (x : ℕ). eqb x p || namedIn (partsBefore list j) p) (processor-at list j)
-
--- ---- A5 to A7: what the code's tests say
-
--- of a processor p, read as q
-pub off-board : {p q row : ℕ} → row ≡ rowOf ours q → q ≡ p → 4 ≤ row → onBoard ours p ≡ false
-unfolding onBoard rows ours
-off-board {p} {q} {row} at same h = le-ltb (rowOf ours p) 4 (subst (λ (r : ℕ). 4 ≤ r) (at ∙ ap (rowOf ours) same) h)
-
-pub on-board : {p q row : ℕ} → row ≡ rowOf ours q → q ≡ p → row < 4 → onBoard ours p ≡ true
-unfolding onBoard rows ours
-on-board {p} {q} {row} at same h = lt-ltb (rowOf ours p) 4 (subst (λ (r : ℕ). r < 4) (at ∙ ap (rowOf ours) same) h)
-
--- of a master m, read as h
-pub master-test : {h m : ℕ} {r b : Bool} → r ≡ activeHost ours h → h ≡ m → not r ≡ b → not (activeHost ours m) ≡ b
-master-test is same told = ap not (sym (ap (activeHost ours) same) ∙ sym is) ∙ told
 
 -- ---- A5 to A8: one entry
 
@@ -172,13 +131,16 @@ module _ (list : List ℕ) (e : ℕ) {part : List ℕ} {p : ℕ} (h : e < 32) (i
       (sym (ap (λ (l : List ℕ). processorIn l) is) ∙ sym at ∙ none)
 
   -- of a used entry also whether an earlier one names its processor, and A5 to A7
-  module _ {fault : Verdict} {named : Bool} (some : p ≡ 0 → ⊥) (before : named ≡ namedIn (partsBefore list e) p)
+  module _ {fault : Verdict} {named : Bool} (some : p ≡ 0 → ⊥) (before : named ≡ writtenIn (partsBefore list e) p)
       (judged : fault ≡ faultOf named part) where
+    asked : named ≡ namedIn (partsBefore list e) p
+    asked = before ∙ written-named (partsBefore list e) p some
+
     names-one : processorIn (partAt list e) ≡ 0 → ⊥
     names-one none = some (at ∙ ap (λ (l : List ℕ). processorIn l) is ∙ none)
 
     whole : faultOf (namedIn (partsBefore list e) (processorIn (partAt list e))) (partAt list e) ≡ fault
-    whole = cc
+    whole = let named-is = asked in cc
 
     pub turn-bad : (fault ≡ Accepted → ⊥) → verdictFrom list e ≡ fault
     turn-bad bad =

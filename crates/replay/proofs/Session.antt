@@ -10,7 +10,8 @@ use lib.Seq.{take-nil}
 use borrow.Author.Tests.{le-leb, leb-true}
 use Rattle.rules.specs.Answer.{bufferAfter}
 use Rattle.fields.specs.declared.Found.the-variants.{Whole}
-use Rattle.fields.specs.Fields.{foundAt, wordsOf}
+use Rattle.fields.specs.Fields.{foundAt}
+use Rattle.words.specs.Words.{wordsOf}
 use Rattle.recording.specs.Played.{PlayedList, PlayedMessage}
 use Rattle.replay.specs.Session.{PlayedField, LeftOver, Memories, memories, Reached, behind, waits, roomLeft, placeIn}
 

@@ -8,7 +8,8 @@ use lib.Dec.{leb}
 use Rattle.rules.specs.Answer.{bufferAfter}
 use Rattle.fields.specs.declared.Found.{Found}
 use Rattle.fields.specs.declared.Found.the-variants.{Whole, Bad, Partial, Nothing}
-use Rattle.fields.specs.Fields.{foundAt, wordsOf}
+use Rattle.fields.specs.Fields.{foundAt}
+use Rattle.words.specs.Words.{wordsOf}
 use Rattle.lines.specs.Lines.{hasRoom}
 use Rattle.recording.specs.Played.{PlayedList, PlayedMessage}
 

@@ -4,7 +4,6 @@
 // is reported.
 use fields::Found;
 use fields::find;
-use fields::take_words;
 use io::write_all;
 use lines::bad_line;
 use lines::cut_line;
@@ -19,6 +18,7 @@ use session::ended;
 use session::has_room;
 use session::is_bad;
 use session::move_down;
+use words::take_words;
 ghost use Prim.Native.Nat.{_+_, _-_, _≤_};
 ghost use lib.ListN.{length, take};
 ghost use mathlib.Core.Path.{_≡_};

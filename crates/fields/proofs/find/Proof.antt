@@ -4,7 +4,7 @@ use mathlib.Core.Path.{_≡_, sym, ap, ap₂, _∙_}
 use borrow.Author.Tests.{not-true, not-false}
 use denote.Ref.{now}
 use Rattle.rules.specs.Bytes.{byteAt, u16At}
-use Rattle.fields.specs.Fields.{lengthGood}
+use Rattle.tags.specs.Tags.{lengthGood}
 use Rattle.fields.specs.declared.Found.the-variants.{Whole}
 use Rattle.fields.proofs.Finds.{finds-nothing, finds-bad-tag, finds-head, finds-bad-length, finds-part, finds-whole}
 use borrow.Author.Needs.{needs}

@@ -11,7 +11,8 @@ use Rattle.rules.specs.Bytes.{u16At}
 use Rattle.rules.specs.Board.{ours}
 use Rattle.rules.proofs.Tests.{cond-true, cond-false}
 use Rattle.rules.specs.AccessList.{partsFrom, entriesTable, listTable, verdictOf}
-use Rattle.lists.specs.Judged.{partsBefore, badFrom, verdictFrom}
+use Rattle.entries.specs.Entries.{partsBefore}
+use Rattle.lists.specs.Judged.{badFrom, verdictFrom}
 use Rattle.lists.proofs.Verdicts.{part-is, no-fault, secondary-bad, secondary-good, secondaries-good, turn-unused, turn-bad, turn-good}
 use Rattle.lists.proofs.judge.Statement.{statement}
 use Rattle.lists.proofs.judge.Tie as tie
@@ -116,6 +117,9 @@ entries-again c =
       turn .entries .inv .1
           ∙ turn-unused list e (omega arith) (part-is list e) (c .before .byte-at .ensures) (c .if6 .taken),
     )
+
+cast-named-before : tie.Need-cast-named-before Inv-loop μ-loop Inv-entries μ-entries
+cast-named-before c = search needs
 
 named-before-requires : tie.Need-named-before-requires Inv-loop μ-loop Inv-entries μ-entries
 named-before-requires c κs = search needs
@@ -235,6 +239,7 @@ judge-spec =
     add-e
     entries-less
     entries-again
+    cast-named-before
     named-before-requires
     check-entry-requires
     enum-told

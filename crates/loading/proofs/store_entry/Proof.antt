@@ -6,7 +6,7 @@ use Rattle.rules.specs.Board.{ours, rowOf}
 use Rattle.rules.proofs.Tests.{cond-true, cond-false}
 use Rattle.loading.specs.Loaded.{putEntry}
 use Rattle.loading.proofs.Words.{four-stores}
-use Rattle.lists.proofs.Verdicts.{off-board, on-board}
+use Rattle.entries.proofs.Faults.{off-board, on-board}
 use borrow.Author.Needs.{needs}
 use Rattle.loading.proofs.store_entry.Statement.{statement}
 use Rattle.loading.proofs.store_entry.Tie as tie

@@ -7,7 +7,7 @@ use lib.ListN.{length, getD, set, take, drop, length-take}
 use lib.Seq.{take-length, getD-take, paste-suc}
 use Rattle.rules.specs.Bytes.{u32At}
 use Rattle.rules.specs.Answer.{bufferAfter}
-use Rattle.fields.specs.Fields.{wordsFrom, wordsOf}
+use Rattle.words.specs.Words.{wordsFrom, wordsOf}
 
 words-length : (body : List ℕ) (i n : ℕ) → length (wordsFrom body i n) ≡ n
 unfolding wordsFrom

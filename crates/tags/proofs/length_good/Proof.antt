@@ -1,7 +1,7 @@
--- `fields::length_good` meets its contract: a law for each tag. Assumes nothing.
-use Rattle.fields.proofs.Finds.{list-length-good, words-length-good, message-length-good}
-use Rattle.fields.proofs.length_good.Statement.{statement}
-use Rattle.fields.proofs.length_good.Tie as tie
+-- `tags::length_good` meets its contract: a law for each tag. Assumes nothing.
+use Rattle.tags.proofs.Lengths.{list-length-good, words-length-good, message-length-good}
+use Rattle.tags.proofs.length_good.Statement.{statement}
+use Rattle.tags.proofs.length_good.Tie as tie
 
 returns : tie.Need-returns
 returns c = list-length-good _ (c .before .args .length) (c .if1 .taken)

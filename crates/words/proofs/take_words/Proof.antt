@@ -1,4 +1,4 @@
--- `fields::take_words` meets its contract. The loop's invariant: the first i words are laid. Assumes nothing.
+-- `words::take_words` meets its contract. The loop's invariant: the first i words are laid. Assumes nothing.
 use Prim.Native.Nat.{ℕ, _-_, _/_, _≤_}
 use mathlib.Core.Path.{_≡_, refl, sym, ap, _∙_}
 use mathlib.Core.List.{List, _++_}
@@ -7,9 +7,9 @@ use native.Mathlib.Omega.{arith}
 use borrow.Author.Needs.{needs}
 use lib.ListN.{length, getD, set, take, drop, length-set}
 use denote.Ref.{now}
-use Rattle.fields.proofs.Words.{taken, taken-length, taken-at, next-word, all-words}
-use Rattle.fields.proofs.take_words.Statement.{statement}
-use Rattle.fields.proofs.take_words.Tie as tie
+use Rattle.words.proofs.Taken.{taken, taken-length, taken-at, next-word, all-words}
+use Rattle.words.proofs.take_words.Statement.{statement}
+use Rattle.words.proofs.take_words.Tie as tie
 
 abbrev Inv-loop : tie.InvT-loop
 Inv-loop body memory₀ whole i₀ memory i =

@@ -1,10 +1,10 @@
--- `lists::check_entry` meets its contract: each return is a line of the table, after those above it. Assumes nothing.
+-- `entries::check_entry` meets its contract: each return is a line of the table, after those above it. Assumes nothing.
 use Rattle.rules.specs.Table.{firstOf}
-use Rattle.lists.specs.Judged.{faultOf}
-use Rattle.lists.proofs.Verdicts.{off-board, on-board, master-test}
+use Rattle.entries.specs.Entries.{faultOf}
+use Rattle.entries.proofs.Faults.{off-board, on-board, master-test}
 use borrow.Author.Needs.{needs}
-use Rattle.lists.proofs.check_entry.Statement.{statement}
-use Rattle.lists.proofs.check_entry.Tie as tie
+use Rattle.entries.proofs.check_entry.Statement.{statement}
+use Rattle.entries.proofs.check_entry.Tie as tie
 
 byte-at-requires : tie.Need-byte-at-requires
 byte-at-requires c κs = search needs

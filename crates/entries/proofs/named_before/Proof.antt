@@ -1,4 +1,4 @@
--- `lists::named_before` meets its contract. The loop's invariant: none of the entries passed names the processor, so the answer is
+-- `entries::named_before` meets its contract. The loop's invariant: none of the entries passed names the processor, so the answer is
 -- that of the entries that are left. Assumes nothing.
 use Prim.Native.Nat.{_≤_, _-_}
 use mathlib.Core.Path.{_≡_, refl, sym, _∙_}
@@ -6,21 +6,20 @@ use native.Mathlib.Omega.{arith}
 use borrow.Author.Needs.{needs}
 use borrow.Author.Tests.{eq-eqb, ne-eqb}
 use Rattle.rules.specs.Table.{anyOf}
-use Rattle.rules.specs.AccessList.{namedIn}
-use Rattle.lists.specs.Judged.{partsBefore}
-use Rattle.lists.proofs.Verdicts.{named-newest}
-use Rattle.lists.proofs.named_before.Statement.{statement}
-use Rattle.lists.proofs.named_before.Tie as tie
+use Rattle.entries.specs.Entries.{partsBefore, writtenIn}
+use Rattle.entries.proofs.Faults.{written-newest}
+use Rattle.entries.proofs.named_before.Statement.{statement}
+use Rattle.entries.proofs.named_before.Tie as tie
 
 abbrev Inv-loop : tie.InvT-loop
 Inv-loop list e processor i₀ i =
-    (i ≤ 32) × (namedIn (partsBefore list e) processor ≡ namedIn (partsBefore list i) processor)
+    (i ≤ 255) × (writtenIn (partsBefore list e) processor ≡ writtenIn (partsBefore list i) processor)
 
 abbrev μ-loop : tie.MeasureT-loop
 μ-loop list e processor i₀ i = i
 
 loop-holds : tie.Need-loop-holds Inv-loop μ-loop
-loop-holds c = (c .before .pre .0, refl)
+loop-holds c = (omega arith, refl)
 
 sub-i : tie.Need-sub-i Inv-loop μ-loop
 sub-i c = omega arith
@@ -41,7 +40,7 @@ returns c =
     let p = c .before .before .before .before .before .args .processor in
     sym
     (c .before .before .before .loop .inv .1
-    ∙ named-newest list i (i - 1) p (c .before .before .before .before .before .pre .1) (omega arith)
+    ∙ written-newest list i (i - 1) p (omega arith)
     ∙ rw (eq-eqb _ _ (sym (c .before .byte-at .ensures) ∙ c .if1 .taken)))
 
 loop-less : tie.Need-loop-less Inv-loop μ-loop
@@ -54,12 +53,12 @@ loop-again c =
     let p = c .before .before .before .before .before .args .processor in (
       omega arith,
       c .before .before .before .loop .inv .1
-          ∙ named-newest list i (i - 1) p (c .before .before .before .before .before .pre .1) (omega arith)
+          ∙ written-newest list i (i - 1) p (omega arith)
           ∙ rw (ne-eqb _ _ (λ e. c .if1 .left (c .before .byte-at .ensures ∙ e))),
     )
 
 returns-2 : tie.Need-returns-2 Inv-loop μ-loop
-unfolding namedIn partsBefore anyOf
+unfolding writtenIn partsBefore anyOf
 returns-2 c =
     let none : c .before .loop .i ≡ 0 = omega arith in sym (c .before .loop .inv .1 ∙ rw none)
 

@@ -1,0 +1,2 @@
+-- One entry of an access list and the entries before it.
+pub mod Entries

@@ -1,0 +1,41 @@
+// One entry of an access list, judged as its own nine-byte part of the list: document 01's A5 to A7,
+// and whether an entry before it names its processor. The rules are specs/Entries.antt.
+ghost use mathlib.Core.Path.{_≡_};
+ghost use Rattle.entries.specs.Entries.{partsBefore, writtenIn, faultOf};
+use board::ROWS;
+use board::is_active;
+use board::row_of;
+use rules::Verdict;
+use wire::byte_at;
+use wire::u16_at;
+
+// Whether an entry before entry `e` names `processor`, newest first. An entry that names one but 0 is
+// used; for 0 the answer is whether an entry before is unused.
+pub fn named_before(list: &[u8], e: u8, processor: u8) -> bool
+    ensures { λ r. ⌜ r ≡ writtenIn (partsBefore (now (list .entry)) e) processor ⌝ }
+{
+    let mut i = e as usize;
+    while i > 0 {
+        i -= 1;
+        if byte_at(list, 4 + 9 * i) == processor {
+            return true;
+        }
+    }
+    false
+}
+
+// A5 to A7 of a used entry; `named` says whether an earlier one names its processor.
+pub fn check_entry(part: &[u8], named: bool) -> Verdict
+    ensures { λ r. ⌜ r ≡ faultOf named (now (part .entry)) ⌝ }
+{
+    if row_of(byte_at(part, 0)) >= ROWS {
+        return Verdict::A5;
+    }
+    if named {
+        return Verdict::A6;
+    }
+    if !is_active(u16_at(part, 1)) {
+        return Verdict::A7;
+    }
+    Verdict::Accepted
+}

@@ -1,0 +1,2 @@
+-- The tags of a recording.
+pub mod Tags

@@ -1,0 +1,2 @@
+-- The status words of a field.
+pub mod Words
