@@ -2,6 +2,7 @@
 // its line to standard output. All that matters is in the crates below; this moves bytes. No contract
 // can say what is read or written, so what a write answered goes through a function that promises what
 // is reported.
+use buffers::move_down;
 use fields::Found;
 use fields::find;
 use fields::take_words;
@@ -18,7 +19,6 @@ use session::both;
 use session::ended;
 use session::has_room;
 use session::is_bad;
-use session::move_down;
 ghost use Prim.Native.Nat.{_+_, _-_, _≤_};
 ghost use lib.ListN.{length, take};
 ghost use mathlib.Core.Path.{_≡_};
