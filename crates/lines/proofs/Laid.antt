@@ -2,7 +2,7 @@
 use Prim.Native.Nat.{ℕ, suc, _+_, _*_, _/_, _%_, _≤_, _<_}
 use mathlib.Core.Path.{_≡_, refl, sym, ap, ap₂, _∙_}
 use mathlib.Core.List.{List, [], _∷_, _++_, append-assoc}
-use native.Mathlib.Nat.{add-assoc}
+use native.Mathlib.Nat.{add-assoc, mod-eq-of-lt}
 use native.Mathlib.Omega.{arith}
 use lib.ListN.{length, getD, set, take, drop, length-append, length-set}
 use lib.Seq.{getD-set-same, drop-set-lt, take-set-le, set-at, drop-cons, drop-drop, take-at, take-suc, append-snoc, length-take-le, drop-append-add, paste-zero}
@@ -10,7 +10,8 @@ use mathlib.Core.Bool.{Bool, true, false}
 use mathlib.Core.Logic.{⊎-elim}
 use lib.Dec.{eqb, lit≤}
 use Rattle.rules.proofs.Tests.{decide}
-use Rattle.lines.specs.Lines.{hexOf, glyph, answerText, laid, printed, Printed}
+use Rattle.digits.specs.Digits.{hexOf, glyph}
+use Rattle.lines.specs.Lines.{answerText, laid, printed, Printed}
 
 -- a piece before the laid text, as long as the place
 head-length : (d : List ℕ) (at : ℕ) (t : List ℕ) → at + length t ≤ length d → length (take at d ++ t) ≡ at + length t
@@ -97,6 +98,10 @@ hex-append : (s t : List ℕ) → hexOf (s ++ t) ≡ hexOf s ++ hexOf t
 unfolding hexOf
 hex-append [] t = refl
 hex-append (b ∷ s) t = ap (λ (l : List ℕ). glyph (b / 16) ∷ glyph (b % 16) ∷ l) (hex-append s t)
+
+-- the high digit of a byte is the last digit of its sixteenth
+pub high-digit : (b : ℕ) → b < 256 → glyph (b / 16 % 16) ≡ glyph (b / 16)
+high-digit b small = let below : b / 16 < 16 = omega arith in ap (λ (n : ℕ). glyph n) (mod-eq-of-lt below)
 
 -- the two digits of one more byte
 pub laid-hex : (d s : List ℕ) (at i : ℕ) → at + 2 * length s ≤ length d → i < length s

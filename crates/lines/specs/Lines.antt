@@ -1,5 +1,5 @@
 -- The printed lines, as ASCII. Assumes nothing.
-use Prim.Native.Nat.{ℕ, zero, suc, _+_, _-_, _/_, _%_, _≤_}
+use Prim.Native.Nat.{ℕ, _+_, _-_, _≤_}
 use mathlib.Core.Path.{_≡_}
 use mathlib.Core.Bool.{Bool, cond}
 use mathlib.Core.List.{List, [], _∷_, _++_}
@@ -9,6 +9,7 @@ use Rattle.rules.specs.declared.Report.{Report}
 use Rattle.rules.specs.declared.Verdict.{Verdict}
 use Rattle.rules.specs.AccessList.{verdictNumber}
 use Rattle.rules.specs.Outcome.{outcomeNumber}
+use Rattle.digits.specs.Digits.{decimalOf, hexOf}
 
 -- OK, or N and R with their number
 abbrev pub outcomeName : ℕ → List ℕ
@@ -18,23 +19,6 @@ outcomeName number =
 -- OK, or A with its number
 abbrev pub verdictName : ℕ → List ℕ
 verdictName number = cond (eqb number 0) (79 ∷ 75 ∷ []) (65 ∷ (48 + number) ∷ [])
-
--- the decimal digits of a number, of at most k
-unfoldable pub decimalIn : ℕ → ℕ → List ℕ
-decimalIn zero n = []
-decimalIn (suc k) n = cond (ltb n 10) ((48 + n) ∷ []) (decimalIn k (n / 10) ++ ((48 + n % 10) ∷ []))
-
--- ten are enough for 32 bits
-abbrev pub decimalOf : ℕ → List ℕ
-decimalOf n = decimalIn 10 n
-
--- a hexadecimal digit, in lower case
-abbrev pub glyph : ℕ → ℕ
-glyph d = cond (ltb d 10) (48 + d) (87 + d)
-
-unfoldable pub hexOf : List ℕ → List ℕ
-hexOf [] = []
-hexOf (b ∷ bytes) = glyph (b / 16) ∷ glyph (b % 16) ∷ hexOf bytes
 
 -- the answer in hex, or - where nothing was written
 unfoldable pub answerText : List ℕ → List ℕ

@@ -6,7 +6,10 @@ ghost use mathlib.Core.Bool.{_&&_};
 ghost use lib.Dec.{leb};
 ghost use Prim.Native.Nat.{_+_, _*_, _≤_, _<_};
 ghost use lib.ListN.{length};
-ghost use Rattle.lines.specs.Lines.{outcomeName, decimalOf, glyph as digit, hexOf, answerText, verdictText, listLine, outcomeText, messageLine, badLine, cutLine, laid, hasRoom, printed, Printed};
+ghost use Rattle.digits.specs.Digits.{decimalOf, hexOf};
+ghost use Rattle.lines.specs.Lines.{outcomeName, answerText, verdictText, listLine, outcomeText, messageLine, badLine, cutLine, laid, hasRoom, printed, Printed};
+use digits::digit_count;
+use digits::hex_digit;
 use messages::outcome_number;
 use messages::verdict_number;
 use rules::Report;
@@ -29,41 +32,6 @@ fn append(line: &mut [u8], at: usize, bytes: &[u8]) -> usize
     at + i
 }
 
-// How many decimal digits a number has. Tests cost less than a loop that divides.
-fn digit_count(number: u32) -> usize
-    ensures { λ r. ⌜ r ≡ length (decimalOf number) ⌝ }
-    ensures { λ r. ⌜ r ≤ 10 ⌝ }
-{
-    if number < 10 {
-        return 1;
-    }
-    if number < 100 {
-        return 2;
-    }
-    if number < 1000 {
-        return 3;
-    }
-    if number < 10000 {
-        return 4;
-    }
-    if number < 100000 {
-        return 5;
-    }
-    if number < 1000000 {
-        return 6;
-    }
-    if number < 10000000 {
-        return 7;
-    }
-    if number < 100000000 {
-        return 8;
-    }
-    if number < 1000000000 {
-        return 9;
-    }
-    10
-}
-
 // Lays the decimal digits of a number over the line, from the last down to the first.
 fn lay_digits(line: &mut [u8], at: usize, number: u32, count: usize)
     requires { ⌜ count ≡ length (decimalOf number) ⌝ }
@@ -79,15 +47,6 @@ fn lay_digits(line: &mut [u8], at: usize, number: u32, count: usize)
     }
 }
 
-// A hexadecimal digit, in lower case.
-fn glyph(d: u8) -> u8
-    requires { ⌜ d < 16 ⌝ }
-    ensures { λ r. ⌜ r ≡ digit d ⌝ }
-{
-    let gap = if d < 10 { 0 } else { 39 };
-    48 + d + gap
-}
-
 // Lays bytes over the line in hexadecimal, two digits for each.
 fn append_hex(line: &mut [u8], at: usize, bytes: &[u8]) -> usize
     requires { ⌜ at + 2 * length (now bytes) ≤ length (now line) ⌝ }
@@ -96,8 +55,8 @@ fn append_hex(line: &mut [u8], at: usize, bytes: &[u8]) -> usize
 {
     let mut i = 0;
     while i < bytes.len() {
-        line[at + 2 * i] = glyph(bytes[i] / 16);
-        line[at + 2 * i + 1] = glyph(bytes[i] % 16);
+        line[at + 2 * i] = hex_digit(bytes[i] / 16);
+        line[at + 2 * i + 1] = hex_digit(bytes[i]);
         i += 1;
     }
     at + 2 * i

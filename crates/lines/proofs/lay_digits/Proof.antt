@@ -5,7 +5,8 @@ use mathlib.Core.Path.{_≡_, refl, ap, _∙_}
 use native.Mathlib.Omega.{arith}
 use lib.ListN.{length, length-set}
 use denote.Ref.{now}
-use Rattle.lines.specs.Lines.{decimalIn, laid}
+use Rattle.digits.specs.Digits.{decimalIn}
+use Rattle.lines.specs.Lines.{laid}
 use Rattle.lines.proofs.Digits.{lastDigits, last-all, laid-lower}
 use Rattle.lines.proofs.Laid.{laid-none}
 use Rattle.lines.proofs.lay_digits.Statement.{statement}

@@ -8,7 +8,8 @@ use native.Mathlib.Omega.{arith}
 use lib.ListN.{length, length-append}
 use lib.Dec.{eqb, ltb}
 use denote.Ref.{now}
-use Rattle.lines.specs.Lines.{outcomeName, decimalOf, answerText}
+use Rattle.digits.specs.Digits.{decimalOf}
+use Rattle.lines.specs.Lines.{outcomeName, answerText}
 use Rattle.lines.proofs.Digits.{number-short}
 use Rattle.lines.proofs.Laid.{laid-both, answer-short}
 use borrow.Author.Needs.{needs}
