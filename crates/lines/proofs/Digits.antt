@@ -12,8 +12,9 @@ use borrow.Author.Tests.{ltb-true}
 use Rattle.rules.proofs.Tests.{decide}
 use Rattle.digits.specs.Digits.{decimalIn}
 use Rattle.digits.proofs.Digits.{decimal-last}
-use Rattle.lines.specs.Lines.{laid}
-use Rattle.lines.proofs.Laid.{laid-none, laid-more, laid-last}
+use Rattle.texts.specs.Texts.{laid}
+use Rattle.texts.proofs.Printing.{laid-none}
+use Rattle.lines.proofs.Laid.{laid-more, laid-last}
 
 -- ---- how many there are at most
 

@@ -9,8 +9,9 @@ use lib.Seq.{take-length}
 use denote.Ref.{now}
 use borrow.Author.Needs.{needs}
 use Rattle.digits.specs.Digits.{glyph, hexOf}
-use Rattle.lines.specs.Lines.{laid}
-use Rattle.lines.proofs.Laid.{laid-none, high-digit, laid-hex, length-hex}
+use Rattle.texts.specs.Texts.{laid}
+use Rattle.texts.proofs.Printing.{laid-none}
+use Rattle.lines.proofs.Laid.{high-digit, laid-hex, length-hex}
 use Rattle.lines.proofs.append_hex.Statement.{statement}
 use Rattle.lines.proofs.append_hex.Tie as tie
 
