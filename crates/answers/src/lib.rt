@@ -1,13 +1,10 @@
-// The answers' bytes, ACK and NAK, and how bytes are put into a lent buffer. The rules are
-// rules/specs/Answer.antt. Each function gives what the definition that its contract names gives,
-// for any message and any buffer.
+// The answers' bytes, ACK and NAK. The rules are rules/specs/Answer.antt. Each function gives what the
+// definition that its contract names gives, for any message.
 ghost use mathlib.Core.Path.{_≡_};
 ghost use mathlib.Core.Bool.{cond};
 ghost use mathlib.Core.List.{_∷_, _++_};
-ghost use lib.ListN.{length};
-ghost use lib.Dec.{leb};
 ghost use Rattle.rules.specs.Bytes.{u32Bytes};
-ghost use Rattle.rules.specs.Answer.{headerWith, ack, statusBytes, bufferAfter};
+ghost use Rattle.rules.specs.Answer.{headerWith, ack, statusBytes};
 use rules::Record;
 use wire::byte_at;
 
@@ -94,21 +91,4 @@ pub fn status_answer(message: &[u8], state: Record, status: u32) -> [u8; 29]
         state.control,
         status,
     )
-}
-
-// Puts `bytes` at the start of `buffer` and gives their number. Where they do not fit, nothing is
-// written and the number is 0.
-pub fn put(buffer: &mut [u8], bytes: &[u8]) -> usize
-    ensures { λ r. ⌜ r ≡ cond (leb (length (now (bytes .entry))) (length (now (buffer .entry)))) (length (now (bytes .entry))) 0 ⌝ }
-    ensures { λ _. ⌜ now (buffer .exit) ≡ cond (leb (length (now (bytes .entry))) (length (now (buffer .entry)))) (bufferAfter (now (bytes .entry)) (now (buffer .entry))) (now (buffer .entry)) ⌝ }
-{
-    if buffer.len() < bytes.len() {
-        return 0;
-    }
-    let mut i = 0;
-    while i < bytes.len() {
-        buffer[i] = bytes[i];
-        i += 1;
-    }
-    i
 }

@@ -1,29 +1,22 @@
--- The decimal digits of a number: how many there are, and how they are laid over a line from the last on. Assumes nothing.
-use Prim.Native.Nat.{ℕ, zero, suc, _+_, _-_, _/_, _%_, _^_, _≤_, _<_}
+-- The decimal digits of a number: how many there are at most, and how they are laid over a line from the last on. Assumes nothing.
+use Prim.Native.Nat.{ℕ, zero, suc, _+_, _-_, _/_, _%_, _≤_, _<_}
 use mathlib.Core.Path.{_≡_, refl, sym, ap, ap₂, _∙_}
 use mathlib.Core.List.{List, [], _∷_, _++_}
 use mathlib.Core.Logic.{⊎-elim}
-use native.Mathlib.Nat.{add-zero, mod-eq-of-lt, one-le-pow, pow-suc}
+use native.Mathlib.Nat.{add-zero, mod-eq-of-lt}
 use native.Mathlib.Numerals.{add-one}
 use native.Mathlib.Omega.{arith}
 use lib.Dec.{ltb}
 use lib.ListN.{length, set, length-append}
-use borrow.Author.Tests.{lt-ltb, le-ltb, ltb-true}
+use borrow.Author.Tests.{ltb-true}
 use Rattle.rules.proofs.Tests.{decide}
-use Rattle.lines.specs.Lines.{decimalIn, laid}
-use Rattle.lines.proofs.Laid.{laid-none, laid-more, laid-last}
+use Rattle.digits.specs.Digits.{decimalIn}
+use Rattle.digits.proofs.Digits.{decimal-last}
+use Rattle.texts.specs.Texts.{laid}
+use Rattle.texts.proofs.Printing.{laid-none}
+use Rattle.lines.proofs.Laid.{laid-more, laid-last}
 
--- a digit taken off the end of a number that has more
-decimal-digit : (k n : ℕ) → 10 ≤ n → decimalIn (suc k) n ≡ decimalIn k (n / 10) ++ ((48 + n % 10) ∷ [])
-unfolding decimalIn
-decimal-digit k n h = rw (le-ltb n 10 h)
-
--- a number of one digit
-pub decimal-last : (k n : ℕ) → n < 10 → decimalIn (suc k) n ≡ (48 + n) ∷ []
-unfolding decimalIn
-decimal-last k n h = rw (lt-ltb n 10 h)
-
--- ---- how many there are
+-- ---- how many there are at most
 
 -- no more digits than places
 length-decimal : (k n : ℕ) → length (decimalIn k n) ≤ k
@@ -39,21 +32,6 @@ length-decimal (suc k) n =
 -- a number and the space behind it take at most eleven bytes
 pub number-short : (n : ℕ) → length (decimalIn 10 n ++ (32 ∷ [])) ≤ 11
 number-short n = let few = length-decimal 10 n in omega (arith, length-append (decimalIn 10 n) (32 ∷ []))
-
--- a number of k + 1 digits, where there are places for them
-length-places : (p k n : ℕ) → k < p → 10 ^ k ≤ n → n < 10 ^ suc k → length (decimalIn p n) ≡ suc k
-length-places zero k n fits low high = absurd (omega arith)
-length-places (suc p) zero n fits low high = ap length (decimal-last p n high)
-length-places (suc p) (suc k) n fits low high =
-    let tens = pow-suc 10 k in
-    let more = pow-suc 10 (suc k) in
-    let one : 1 ≤ 10 ^ k = one-le-pow k 10 (omega arith) in
-    let ih : length (decimalIn p (n / 10)) ≡ suc k = length-places p k (n / 10) (omega arith) (omega arith) (omega arith) in
-    ap length (decimal-digit p n (omega arith)) ∙ length-append (decimalIn p (n / 10)) ((48 + n % 10) ∷ []) ∙ omega arith
-
--- how many digits a number between two powers of ten has
-pub counted : (k n : ℕ) → k < 10 → 10 ^ k ≤ n → n < 10 ^ suc k → (suc k ≡ length (decimalIn 10 n)) × (suc k ≤ 10)
-counted k n fits low high = (sym (length-places 10 k n fits low high), omega arith)
 
 -- ---- laid over a line, from the last on
 

@@ -2,15 +2,16 @@
 use Prim.Native.Nat.{ℕ, suc, _+_, _*_, _/_, _%_, _≤_, _<_}
 use mathlib.Core.Path.{_≡_, refl, sym, ap, ap₂, _∙_}
 use mathlib.Core.List.{List, [], _∷_, _++_, append-assoc}
-use native.Mathlib.Nat.{add-assoc}
+use native.Mathlib.Nat.{add-assoc, mod-eq-of-lt}
 use native.Mathlib.Omega.{arith}
 use lib.ListN.{length, getD, set, take, drop, length-append, length-set}
-use lib.Seq.{getD-set-same, drop-set-lt, take-set-le, set-at, drop-cons, drop-drop, take-at, take-suc, append-snoc, length-take-le, drop-append-add, paste-zero}
-use mathlib.Core.Bool.{Bool, true, false}
+use lib.Seq.{getD-set-same, drop-set-lt, take-set-le, set-at, drop-cons, drop-drop, take-at, take-suc, append-snoc, length-take-le, drop-append-add}
 use mathlib.Core.Logic.{⊎-elim}
-use lib.Dec.{eqb, lit≤}
+use lib.Dec.{eqb}
 use Rattle.rules.proofs.Tests.{decide}
-use Rattle.lines.specs.Lines.{hexOf, glyph, answerText, laid, printed, Printed}
+use Rattle.digits.specs.Digits.{hexOf, glyph}
+use Rattle.texts.specs.Texts.{laid}
+use Rattle.lines.specs.Lines.{answerText}
 
 -- a piece before the laid text, as long as the place
 head-length : (d : List ℕ) (at : ℕ) (t : List ℕ) → at + length t ≤ length d → length (take at d ++ t) ≡ at + length t
@@ -60,10 +61,6 @@ laid-last d at t x h =
     ap₂ (λ (l r : List ℕ). l ++ t ++ r) (take-set-le at d (at + length t) x (omega arith)) (drop-set d (at + length t) x h)
     ∙ laid-snoc d at t x
 
--- nothing laid
-pub laid-none : (d : List ℕ) (at : ℕ) → d ≡ laid d at []
-laid-none d at = paste-zero d at []
-
 -- a second piece, laid behind the first
 pub laid-twice : (d : List ℕ) (at : ℕ) (t u : List ℕ) → at + length t + length u ≤ length d
     → laid (laid d at t) (at + length t) u ≡ laid d at (t ++ u)
@@ -97,6 +94,10 @@ hex-append : (s t : List ℕ) → hexOf (s ++ t) ≡ hexOf s ++ hexOf t
 unfolding hexOf
 hex-append [] t = refl
 hex-append (b ∷ s) t = ap (λ (l : List ℕ). glyph (b / 16) ∷ glyph (b % 16) ∷ l) (hex-append s t)
+
+-- the high digit of a byte is the last digit of its sixteenth
+pub high-digit : (b : ℕ) → b < 256 → glyph (b / 16 % 16) ≡ glyph (b / 16)
+high-digit b small = let below : b / 16 < 16 = omega arith in ap (λ (n : ℕ). glyph n) (mod-eq-of-lt below)
 
 -- the two digits of one more byte
 pub laid-hex : (d s : List ℕ) (at i : ℕ) → at + 2 * length s ≤ length d → i < length s
@@ -136,13 +137,3 @@ pub answer-short : (bytes : List ℕ) → length bytes ≤ 29 → length (answer
 unfolding answerText
 answer-short bytes h =
     ⊎-elim (λ t. rw t (omega arith)) (λ f. rw f (let size = length-hex bytes in omega arith)) (decide (eqb (length bytes) 0))
-
--- ---- a whole line printed, or nothing
-
-module _ (line text : List ℕ) (room : Bool) where
-  pub nothing-printed : room ≡ false → Printed line (printed room text) line 0
-  nothing-printed none = record { count = rw none; over = rw none (laid-none line 0); short = lit≤ tt }
-
-  pub all-printed : (line′ : List ℕ) (n : ℕ) → room ≡ true → n ≡ length text → line′ ≡ laid line 0 text → n ≤ 96
-      → Printed line (printed room text) line′ n
-  all-printed line′ n all count over short = record { count = rw all count; over = rw all over; short = short }

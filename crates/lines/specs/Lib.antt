@@ -1,2 +1,2 @@
--- The printed lines.
+-- The line that a message prints.
 pub mod Lines

@@ -1,51 +1,17 @@
--- The printed lines, as ASCII. Assumes nothing.
-use Prim.Native.Nat.{ℕ, zero, suc, _+_, _-_, _/_, _%_, _≤_}
-use mathlib.Core.Path.{_≡_}
-use mathlib.Core.Bool.{Bool, cond}
+-- The line that a message prints, as ASCII. Assumes nothing.
+use Prim.Native.Nat.{ℕ}
+use mathlib.Core.Bool.{cond}
 use mathlib.Core.List.{List, [], _∷_, _++_}
-use lib.ListN.{length, take, drop}
-use lib.Dec.{eqb, leb, ltb}
+use lib.ListN.{length}
+use lib.Dec.{eqb}
 use Rattle.rules.specs.declared.Report.{Report}
-use Rattle.rules.specs.declared.Verdict.{Verdict}
-use Rattle.rules.specs.AccessList.{verdictNumber}
 use Rattle.rules.specs.Outcome.{outcomeNumber}
-
--- OK, or N and R with their number
-abbrev pub outcomeName : ℕ → List ℕ
-outcomeName number =
-    cond (eqb number 0) (79 ∷ 75 ∷ []) (cond (ltb number 100) (78 ∷ (48 + number) ∷ []) (82 ∷ (number - 52) ∷ []))
-
--- OK, or A with its number
-abbrev pub verdictName : ℕ → List ℕ
-verdictName number = cond (eqb number 0) (79 ∷ 75 ∷ []) (65 ∷ (48 + number) ∷ [])
-
--- the decimal digits of a number, of at most k
-unfoldable pub decimalIn : ℕ → ℕ → List ℕ
-decimalIn zero n = []
-decimalIn (suc k) n = cond (ltb n 10) ((48 + n) ∷ []) (decimalIn k (n / 10) ++ ((48 + n % 10) ∷ []))
-
--- ten are enough for 32 bits
-abbrev pub decimalOf : ℕ → List ℕ
-decimalOf n = decimalIn 10 n
-
--- a hexadecimal digit, in lower case
-abbrev pub glyph : ℕ → ℕ
-glyph d = cond (ltb d 10) (48 + d) (87 + d)
-
-unfoldable pub hexOf : List ℕ → List ℕ
-hexOf [] = []
-hexOf (b ∷ bytes) = glyph (b / 16) ∷ glyph (b % 16) ∷ hexOf bytes
+use Rattle.digits.specs.Digits.{decimalOf, hexOf}
+use Rattle.texts.specs.Texts.{outcomeName}
 
 -- the answer in hex, or - where nothing was written
 unfoldable pub answerText : List ℕ → List ℕ
 answerText bytes = cond (eqb (length bytes) 0) (45 ∷ []) (hexOf bytes)
-
--- tag 1 prints `list OK` or `list A5`
-abbrev pub verdictText : ℕ → List ℕ
-verdictText number = (108 ∷ 105 ∷ 115 ∷ 116 ∷ 32 ∷ []) ++ verdictName number ++ (10 ∷ [])
-
-unfoldable pub listLine : Verdict → List ℕ
-listLine v = verdictText (verdictNumber v)
 
 -- tag 3 prints outcome, checks, microseconds and answer, with single spaces
 abbrev pub outcomeText : ℕ → ℕ → ℕ → List ℕ → List ℕ
@@ -58,28 +24,3 @@ outcomeText number checks micros bytes =
 
 unfoldable pub messageLine : Report → List ℕ → List ℕ
 messageLine r bytes = outcomeText (outcomeNumber (r .outcome)) (r .checks) (r .micros) bytes
-
--- `bad record` and `cut record`
-abbrev pub badLine : List ℕ
-badLine = 98 ∷ 97 ∷ 100 ∷ 32 ∷ 114 ∷ 101 ∷ 99 ∷ 111 ∷ 114 ∷ 100 ∷ 10 ∷ []
-
-abbrev pub cutLine : List ℕ
-cutLine = 99 ∷ 117 ∷ 116 ∷ 32 ∷ 114 ∷ 101 ∷ 99 ∷ 111 ∷ 114 ∷ 100 ∷ 10 ∷ []
-
--- a text laid over what a buffer held, from place `at` on
-abbrev pub laid : List ℕ → ℕ → List ℕ → List ℕ
-laid held at text = take at held ++ text ++ drop (at + length text) held
-
--- room for any line whose answer has at most 29 bytes
-abbrev pub hasRoom : List ℕ → Bool
-hasRoom line = leb 96 (length line)
-
--- what is printed of a text: all of it, or nothing
-abbrev pub printed : Bool → List ℕ → List ℕ
-printed room text = cond room text []
-
--- a text laid over the start of a line
-pub record Printed (line text line′ : List ℕ) (n : ℕ) : Type 0 where
-  pub count : n ≡ length text
-  pub over : line′ ≡ laid line 0 text
-  pub short : n ≤ 96

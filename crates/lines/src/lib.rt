@@ -1,4 +1,4 @@
-// The lines that a session prints, laid over the start of a lent buffer. The rules are specs/Lines.antt.
+// The line that a message prints, laid over the start of a lent buffer. The rules are specs/Lines.antt.
 // Text is laid piece by piece: each piece from a place on, giving the place behind it.
 ghost use mathlib.Core.List.{_++_, _∷_, []};
 ghost use mathlib.Core.Path.{_≡_};
@@ -6,14 +6,16 @@ ghost use mathlib.Core.Bool.{_&&_};
 ghost use lib.Dec.{leb};
 ghost use Prim.Native.Nat.{_+_, _*_, _≤_, _<_};
 ghost use lib.ListN.{length};
-ghost use Rattle.lines.specs.Lines.{outcomeName, decimalOf, glyph as digit, hexOf, answerText, verdictText, listLine, outcomeText, messageLine, badLine, cutLine, laid, hasRoom, printed, Printed};
-use numbers::outcome_number;
-use numbers::verdict_number;
+ghost use Rattle.rules.specs.Outcome.{outcomeNumber};
+ghost use Rattle.digits.specs.Digits.{decimalOf, hexOf};
+ghost use Rattle.texts.specs.Texts.{laid, hasRoom, printed, Printed};
+ghost use Rattle.lines.specs.Lines.{answerText, outcomeText, messageLine};
+use digits::digit_count;
+use digits::hex_digit;
+use rules::Outcome;
 use rules::Report;
-use rules::Verdict;
-
-// The bytes that any line fits in.
-pub const ROOM: usize = 96;
+use texts::ROOM;
+use texts::outcome_name;
 
 // Lays `bytes` over the line.
 fn append(line: &mut [u8], at: usize, bytes: &[u8]) -> usize
@@ -27,41 +29,6 @@ fn append(line: &mut [u8], at: usize, bytes: &[u8]) -> usize
         i += 1;
     }
     at + i
-}
-
-// How many decimal digits a number has. Tests cost less than a loop that divides.
-fn digit_count(number: u32) -> usize
-    ensures { λ r. ⌜ r ≡ length (decimalOf number) ⌝ }
-    ensures { λ r. ⌜ r ≤ 10 ⌝ }
-{
-    if number < 10 {
-        return 1;
-    }
-    if number < 100 {
-        return 2;
-    }
-    if number < 1000 {
-        return 3;
-    }
-    if number < 10000 {
-        return 4;
-    }
-    if number < 100000 {
-        return 5;
-    }
-    if number < 1000000 {
-        return 6;
-    }
-    if number < 10000000 {
-        return 7;
-    }
-    if number < 100000000 {
-        return 8;
-    }
-    if number < 1000000000 {
-        return 9;
-    }
-    10
 }
 
 // Lays the decimal digits of a number over the line, from the last down to the first.
@@ -79,15 +46,6 @@ fn lay_digits(line: &mut [u8], at: usize, number: u32, count: usize)
     }
 }
 
-// A hexadecimal digit, in lower case.
-fn glyph(d: u8) -> u8
-    requires { ⌜ d < 16 ⌝ }
-    ensures { λ r. ⌜ r ≡ digit d ⌝ }
-{
-    let gap = if d < 10 { 0 } else { 39 };
-    48 + d + gap
-}
-
 // Lays bytes over the line in hexadecimal, two digits for each.
 fn append_hex(line: &mut [u8], at: usize, bytes: &[u8]) -> usize
     requires { ⌜ at + 2 * length (now bytes) ≤ length (now line) ⌝ }
@@ -96,8 +54,8 @@ fn append_hex(line: &mut [u8], at: usize, bytes: &[u8]) -> usize
 {
     let mut i = 0;
     while i < bytes.len() {
-        line[at + 2 * i] = glyph(bytes[i] / 16);
-        line[at + 2 * i + 1] = glyph(bytes[i] % 16);
+        line[at + 2 * i] = hex_digit(bytes[i] / 16);
+        line[at + 2 * i + 1] = hex_digit(bytes[i]);
         i += 1;
     }
     at + 2 * i
@@ -141,52 +99,15 @@ fn append_answer(line: &mut [u8], at: usize, bytes: &[u8]) -> usize
     append_hex(line, at, bytes)
 }
 
-// The line of a list, by the verdict's number.
-fn list_text(number: u32) -> [u8; 8]
-    requires { ⌜ number ≤ 8 ⌝ }
-    ensures { λ r. ⌜ r ≡ verdictText number ⌝ }
-{
-    if number == 0 {
-        return [b'l', b'i', b's', b't', b' ', b'O', b'K', b'\n'];
-    }
-    [b'l', b'i', b's', b't', b' ', b'A', 48 + number as u8, b'\n']
-}
-
-// An outcome's name, by its number, and a space behind it.
-fn name_text(number: u32) -> [u8; 3]
-    requires { ⌜ number ≤ 103 ⌝ }
-    ensures { λ r. ⌜ r ≡ outcomeName number ++ (32 ∷ []) ⌝ }
-{
-    if number == 0 {
-        return [b'O', b'K', b' '];
-    }
-    if number < 100 {
-        return [b'N', 48 + number as u8, b' '];
-    }
-    [b'R', (number - 52) as u8, b' ']
-}
-
-// The line of a list. Gives its length: 0 where there is no room, and nothing is written.
-pub fn print_list(line: &mut [u8], verdict: Verdict) -> usize
-    ensures { λ r. ⌜ Printed (now (line .entry)) (printed (hasRoom (now (line .entry))) (listLine verdict)) (now (line .exit)) r ⌝ }
-{
-    if line.len() < ROOM {
-        return 0;
-    }
-    let text = list_text(verdict_number(verdict));
-    append(line, 0, &text)
-}
-
 // The line of a message.
-fn write_line(line: &mut [u8], number: u32, checks: u32, micros: u32, bytes: &[u8]) -> usize
+fn write_line(line: &mut [u8], outcome: Outcome, checks: u32, micros: u32, bytes: &[u8]) -> usize
     requires { ⌜ 96 ≤ length (now line) ⌝ }
-    requires { ⌜ number ≤ 103 ⌝ }
     requires { ⌜ length (now bytes) ≤ 29 ⌝ }
-    ensures { λ r. ⌜ r ≡ length (outcomeText number checks micros (now (bytes .entry))) ⌝ }
+    ensures { λ r. ⌜ r ≡ length (outcomeText (outcomeNumber outcome) checks micros (now (bytes .entry))) ⌝ }
     ensures { λ r. ⌜ r ≤ 96 ⌝ }
-    ensures { λ _. ⌜ now (line .exit) ≡ laid (now (line .entry)) 0 (outcomeText number checks micros (now (bytes .entry))) ⌝ }
+    ensures { λ _. ⌜ now (line .exit) ≡ laid (now (line .entry)) 0 (outcomeText (outcomeNumber outcome) checks micros (now (bytes .entry))) ⌝ }
 {
-    let name = name_text(number);
+    let name = outcome_name(outcome);
     let after_name = append(line, 0, &name);
     let after_checks = append_number(line, after_name, checks);
     let after_micros = append_number(line, after_checks, micros);
@@ -206,20 +127,5 @@ pub fn print_message(line: &mut [u8], told: Report, bytes: &[u8]) -> usize
         return 0;
     }
     let outcome = told.outcome;
-    let number = outcome_number(outcome);
-    write_line(line, number, told.checks, told.micros, bytes)
-}
-
-// What a bad record prints.
-pub fn bad_line() -> [u8; 11]
-    ensures { λ r. ⌜ r ≡ badLine ⌝ }
-{
-    *b"bad record\n"
-}
-
-// What a field that is cut off prints.
-pub fn cut_line() -> [u8; 11]
-    ensures { λ r. ⌜ r ≡ cutLine ⌝ }
-{
-    *b"cut record\n"
+    write_line(line, outcome, told.checks, told.micros, bytes)
 }

@@ -17,8 +17,9 @@ use Rattle.rules.specs.Call.{answerTo, Lent}
 use Rattle.rules.proofs.Tests.{clash}
 use Rattle.manager.specs.Calls.{ListCall, MessageCall}
 use Rattle.manager.proofs.TwoCalls.{written-short}
-use Rattle.lines.specs.Lines.{listLine, messageLine, hasRoom, printed, Printed}
-use Rattle.lines.proofs.Laid.{nothing-printed}
+use Rattle.texts.specs.Texts.{listLine, hasRoom, printed, Printed}
+use Rattle.texts.proofs.Printing.{nothing-printed}
+use Rattle.lines.specs.Lines.{messageLine}
 use Rattle.recording.specs.Played.{PlayedList, lentIn, PlayedMessage}
 
 -- the line of what a message call reports and leaves at the start of its buffer

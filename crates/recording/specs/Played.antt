@@ -14,7 +14,8 @@ use Rattle.access.specs.Memory.{listedIn}
 use Rattle.loading.specs.Loaded.{accessAfter}
 use Rattle.records.specs.Memory.{recordsIn, stateIn}
 use Rattle.manager.specs.Calls.{lending}
-use Rattle.lines.specs.Lines.{listLine, messageLine, hasRoom, printed, Printed}
+use Rattle.texts.specs.Texts.{listLine, hasRoom, printed, Printed}
+use Rattle.lines.specs.Lines.{messageLine}
 
 -- a list field: its body is offered
 abbrev pub listText : List ℕ → List ℕ → List ℕ

@@ -3,11 +3,11 @@
 ghost use mathlib.Core.Path.{_≡_};
 ghost use lib.ListN.{drop};
 ghost use Rattle.recording.specs.Played.{PlayedList, PlayedMessage};
-use lines::ROOM;
-use lines::print_list;
 use lines::print_message;
 use manager::message;
 use manager::offer_list;
+use texts::ROOM;
+use texts::print_list;
 use wire::byte_at;
 
 // Carries out a list field, and writes its line over the start of `line`. Gives the line's length.

@@ -10,7 +10,7 @@ use Rattle.fields.specs.declared.Found.{Found}
 use Rattle.fields.specs.declared.Found.the-variants.{Whole, Bad, Partial, Nothing}
 use Rattle.fields.specs.Fields.{foundAt}
 use Rattle.words.specs.Words.{wordsOf}
-use Rattle.lines.specs.Lines.{hasRoom}
+use Rattle.texts.specs.Texts.{hasRoom}
 use Rattle.recording.specs.Played.{PlayedList, PlayedMessage}
 
 -- the status words of a field stand from now on, and nothing is printed

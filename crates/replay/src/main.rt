@@ -2,11 +2,10 @@
 // its line to standard output. All that matters is in the crates below; this moves bytes. No contract
 // can say what is read or written, so what a write answered goes through a function that promises what
 // is reported.
+use buffers::move_down;
 use fields::Found;
 use fields::find;
 use io::write_all;
-use lines::bad_line;
-use lines::cut_line;
 use recording::list_line;
 use recording::message_line;
 use session::Gathered;
@@ -17,7 +16,8 @@ use session::both;
 use session::ended;
 use session::has_room;
 use session::is_bad;
-use session::move_down;
+use texts::bad_line;
+use texts::cut_line;
 use words::take_words;
 ghost use Prim.Native.Nat.{_+_, _-_, _≤_};
 ghost use lib.ListN.{length, take};

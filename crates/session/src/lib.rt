@@ -1,10 +1,9 @@
-// What a replayed session makes of what its writes answered, how the playing of a buffer ends, and what
-// is kept of it. No contract can say what is written, so what a write answered goes through these, which
-// promise what is reported.
+// What a replayed session makes of what its writes answered, and how the playing of a buffer ends. No
+// contract can say what is written, so what a write answered goes through these, which promise what is
+// reported.
 ghost use mathlib.Core.Path.{_≡_};
-ghost use mathlib.Core.Bool.{_&&_, not, cond};
+ghost use mathlib.Core.Bool.{_&&_, not};
 ghost use Prim.Native.Nat.{_-_};
-ghost use lib.ListN.{length, take, drop};
 ghost use lib.Dec.{leb};
 ghost use Rattle.session.specs.Ends.{isBad};
 use fields::Found;
@@ -77,25 +76,4 @@ pub fn has_room(size: usize, used: usize) -> bool
         return false;
     }
     96 <= size - used
-}
-
-// Moves the bytes of `buffer` from `from` up to `end` to its start, and gives their number: none where
-// the buffer does not reach that far.
-pub fn move_down(buffer: &mut [u8], from: usize, end: usize) -> usize
-    ensures { λ r. ⌜ r ≡ cond (leb end (length (now (buffer .entry)))) (end - from) 0 ⌝ }
-    ensures { λ r. ⌜ take r (now (buffer .exit)) ≡ take r (drop from (now (buffer .entry))) ⌝ }
-{
-    if buffer.len() < end {
-        return 0;
-    }
-    if end < from {
-        return 0;
-    }
-    let left = end - from;
-    let mut n = 0;
-    while n < left {
-        buffer[n] = buffer[from + n];
-        n += 1;
-    }
-    left
 }

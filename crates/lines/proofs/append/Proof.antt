@@ -7,8 +7,9 @@ use native.Mathlib.Omega.{arith}
 use lib.ListN.{length, getD, set, take, length-set}
 use lib.Seq.{take-length}
 use denote.Ref.{now}
-use Rattle.lines.specs.Lines.{laid}
-use Rattle.lines.proofs.Laid.{laid-none, laid-next}
+use Rattle.texts.specs.Texts.{laid}
+use Rattle.texts.proofs.Printing.{laid-none}
+use Rattle.lines.proofs.Laid.{laid-next}
 use Rattle.lines.proofs.append.Statement.{statement}
 use Rattle.lines.proofs.append.Tie as tie
 

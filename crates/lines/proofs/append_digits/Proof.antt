@@ -2,7 +2,7 @@
 use native.Mathlib.Omega.{arith}
 use denote.Ref.{now}
 use borrow.Author.Needs.{needs}
-use Rattle.lines.specs.Lines.{decimalIn}
+use Rattle.digits.specs.Digits.{decimalIn}
 use Rattle.lines.proofs.Laid.{laid-end}
 use Rattle.lines.proofs.append_digits.Statement.{statement}
 use Rattle.lines.proofs.append_digits.Tie as tie

@@ -7,8 +7,11 @@ use native.Mathlib.Omega.{arith}
 use lib.ListN.{length, getD, set, take, length-set}
 use lib.Seq.{take-length}
 use denote.Ref.{now}
-use Rattle.lines.specs.Lines.{glyph, hexOf, laid}
-use Rattle.lines.proofs.Laid.{laid-none, laid-hex, length-hex}
+use borrow.Author.Needs.{needs}
+use Rattle.digits.specs.Digits.{glyph, hexOf}
+use Rattle.texts.specs.Texts.{laid}
+use Rattle.texts.proofs.Printing.{laid-none}
+use Rattle.lines.proofs.Laid.{high-digit, laid-hex, length-hex}
 use Rattle.lines.proofs.append_hex.Statement.{statement}
 use Rattle.lines.proofs.append_hex.Tie as tie
 
@@ -23,11 +26,11 @@ loop-holds : tie.Need-loop-holds Inv-loop μ-loop
 unfolding hexOf
 loop-holds c = (omega arith, laid-none (now (c .before .before .args .line)) (c .before .before .args .at), refl)
 
-shared-slice-read-glyph : tie.Need-shared-slice-read-glyph Inv-loop μ-loop
-shared-slice-read-glyph c = omega arith
+shared-slice-read-hex-digit : tie.Need-shared-slice-read-hex-digit Inv-loop μ-loop
+shared-slice-read-hex-digit c = omega arith
 
-glyph-requires : tie.Need-glyph-requires Inv-loop μ-loop
-glyph-requires c κs = omega (arith, c .shared-slice-known2 .given (c .before .before .loop .i))
+hex-digit-requires : tie.Need-hex-digit-requires Inv-loop μ-loop
+hex-digit-requires c κs = search needs
 
 mul-line : tie.Need-mul-line Inv-loop μ-loop
 mul-line c = omega arith
@@ -38,11 +41,11 @@ add-line c = omega arith
 slice-write-line : tie.Need-slice-write-line Inv-loop μ-loop
 slice-write-line c = omega arith
 
-shared-slice-read-glyph-2 : tie.Need-shared-slice-read-glyph-2 Inv-loop μ-loop
-shared-slice-read-glyph-2 c = omega arith
+shared-slice-read-hex-digit-2 : tie.Need-shared-slice-read-hex-digit-2 Inv-loop μ-loop
+shared-slice-read-hex-digit-2 c = omega arith
 
-glyph-requires-2 : tie.Need-glyph-requires-2 Inv-loop μ-loop
-glyph-requires-2 c κs = omega (arith, c .shared-slice-known3 .given (c .before .before .before .before .loop .i))
+hex-digit-requires-2 : tie.Need-hex-digit-requires-2 Inv-loop μ-loop
+hex-digit-requires-2 c κs = search needs
 
 mul-line-2 : tie.Need-mul-line-2 Inv-loop μ-loop
 mul-line-2 c = omega arith
@@ -70,7 +73,7 @@ loop-again c =
     let d = now (a .line) in
     let b = getD s (l .i) 0 in (
       omega arith,
-      ap₂ (λ (x y : ℕ). set (set (l .line) (a .at + 2 * l .i) x) (a .at + 2 * l .i + 1) y) (c .before .before .glyph .ensures) (c .glyph2 .ensures)
+      ap₂ (λ (x y : ℕ). set (set (l .line) (a .at + 2 * l .i) x) (a .at + 2 * l .i + 1) y) (c .before .before .hex-digit .ensures ∙ high-digit b (omega (arith, c .before .before .before .shared-slice-known2 .given (l .i)))) (c .hex-digit2 .ensures)
           ∙ ap (λ (x : List ℕ). set (set x (a .at + 2 * l .i) (glyph (b / 16))) (a .at + 2 * l .i + 1) (glyph (b % 16))) (l .inv .1)
           ∙ laid-hex d s (a .at) (l .i) (omega arith) (omega arith)
           ∙ ap (λ (n : ℕ). laid d (a .at) (hexOf (take n s))) (sym (add-one (l .i))),
@@ -104,13 +107,13 @@ append-hex-spec =
     Inv-loop
     μ-loop
     loop-holds
-    shared-slice-read-glyph
-    glyph-requires
+    shared-slice-read-hex-digit
+    hex-digit-requires
     mul-line
     add-line
     slice-write-line
-    shared-slice-read-glyph-2
-    glyph-requires-2
+    shared-slice-read-hex-digit-2
+    hex-digit-requires-2
     mul-line-2
     add-line-2
     add-line-3

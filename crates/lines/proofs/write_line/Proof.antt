@@ -8,7 +8,10 @@ use native.Mathlib.Omega.{arith}
 use lib.ListN.{length, length-append}
 use lib.Dec.{eqb, ltb}
 use denote.Ref.{now}
-use Rattle.lines.specs.Lines.{outcomeName, decimalOf, answerText}
+use Rattle.rules.specs.Outcome.{outcomeNumber}
+use Rattle.digits.specs.Digits.{decimalOf}
+use Rattle.texts.specs.Texts.{outcomeName}
+use Rattle.lines.specs.Lines.{answerText}
 use Rattle.lines.proofs.Digits.{number-short}
 use Rattle.lines.proofs.Laid.{laid-both, answer-short}
 use borrow.Author.Needs.{needs}
@@ -23,8 +26,8 @@ name-three n = go (eqb n 0) (ltb n 100) refl refl
     go false true p q = rw (p, q)
     go false false p q = rw (p, q)
 
-name-text-requires : tie.Need-name-text-requires
-name-text-requires c κs = search needs
+outcome-name-requires : tie.Need-outcome-name-requires
+outcome-name-requires c κs = search needs
 
 slice-aggregate-append : tie.Need-slice-aggregate-append
 slice-aggregate-append c = search needs
@@ -43,8 +46,8 @@ append-number-requires-2 c κs = omega (
   number-short (c .before .before .before .before .before .before .before .before .before .before .before .before .before .args .checks),
   c .before .before .before .before .before .before .before .append .ensures .0,
   c .before .before .before .before .before .before .before .append .kept .0,
-  ap length (c .before .before .before .before .before .before .before .before .before .before .name-text .ensures),
-  name-three (c .before .before .before .before .before .before .before .before .before .before .before .before .before .args .number),
+  ap length (c .before .before .before .before .before .before .before .before .before .before .outcome-name .ensures),
+  name-three (outcomeNumber (c .before .before .before .before .before .before .before .before .before .before .before .before .before .args .outcome)),
 )
 
 append-answer-requires : tie.Need-append-answer-requires
@@ -58,8 +61,8 @@ append-answer-requires c κs = omega (
   number-short (c .before .before .before .before .before .before .before .before .before .before .before .before .before .before .before .before .before .args .checks),
   c .before .before .before .before .before .before .before .before .before .before .before .append .ensures .0,
   c .before .before .before .before .before .before .before .before .before .before .before .append .kept .0,
-  ap length (c .before .before .before .before .before .before .before .before .before .before .before .before .before .before .name-text .ensures),
-  name-three (c .before .before .before .before .before .before .before .before .before .before .before .before .before .before .before .before .before .args .number),
+  ap length (c .before .before .before .before .before .before .before .before .before .before .before .before .before .before .outcome-name .ensures),
+  name-three (outcomeNumber (c .before .before .before .before .before .before .before .before .before .before .before .before .before .before .before .before .before .args .outcome)),
 )
 
 slice-aggregate-append-2 : tie.Need-slice-aggregate-append-2
@@ -70,7 +73,7 @@ append-requires-2 c κs = omega (
   arith,
   c .before .before .before .before .append-answer .ensures .0,
   c .before .before .before .before .append-answer .kept .0,
-  answer-short (now (c .before .before .before .before .before .before .before .before .before .before .before .before .before .before .before .before .before .before .before .before .before .before .args .bytes)) (c .before .before .before .before .before .before .before .before .before .before .before .before .before .before .before .before .before .before .before .before .before .before .pre .1 .1),
+  answer-short (now (c .before .before .before .before .before .before .before .before .before .before .before .before .before .before .before .before .before .before .before .before .before .before .args .bytes)) (c .before .before .before .before .before .before .before .before .before .before .before .before .before .before .before .before .before .before .before .before .before .before .pre .1),
   c .before .before .before .before .before .before .before .before .append-number2 .ensures .0,
   c .before .before .before .before .before .before .before .before .append-number2 .kept .0,
   number-short (c .before .before .before .before .before .before .before .before .before .before .before .before .before .before .before .before .before .before .before .before .before .before .args .micros),
@@ -79,8 +82,8 @@ append-requires-2 c κs = omega (
   number-short (c .before .before .before .before .before .before .before .before .before .before .before .before .before .before .before .before .before .before .before .before .before .before .args .checks),
   c .before .before .before .before .before .before .before .before .before .before .before .before .before .before .before .before .append .ensures .0,
   c .before .before .before .before .before .before .before .before .before .before .before .before .before .before .before .before .append .kept .0,
-  ap length (c .before .before .before .before .before .before .before .before .before .before .before .before .before .before .before .before .before .before .before .name-text .ensures),
-  name-three (c .before .before .before .before .before .before .before .before .before .before .before .before .before .before .before .before .before .before .before .before .before .before .args .number),
+  ap length (c .before .before .before .before .before .before .before .before .before .before .before .before .before .before .before .before .before .before .before .outcome-name .ensures),
+  name-three (outcomeNumber (c .before .before .before .before .before .before .before .before .before .before .before .before .before .before .before .before .before .before .before .before .before .before .args .outcome)),
 )
 
 same-length : tie.Need-same-length
@@ -91,18 +94,18 @@ returns c =
     let a = c .before .before .before .before .before .before .before .before .before .before .before .before .before .before .before .before .before .before .before .before .before .before .before .before .before .args in
     let held = now (a .line) in
     let size = c .before .before .before .before .before .before .before .before .before .before .before .before .before .before .before .before .before .before .before .before .before .before .before .before .before .pre .0 in
-    let name = outcomeName (a .number) ++ (32 ∷ []) in
+    let name = outcomeName (outcomeNumber (a .outcome)) ++ (32 ∷ []) in
     let checks = decimalOf (a .checks) ++ (32 ∷ []) in
     let micros = decimalOf (a .micros) ++ (32 ∷ []) in
     let answer = answerText (now (a .bytes)) in
-    let l1 = name-three (a .number) in
+    let l1 = name-three (outcomeNumber (a .outcome)) in
     let l2 = number-short (a .checks) in
     let l3 = number-short (a .micros) in
-    let l4 = answer-short (now (a .bytes)) (c .before .before .before .before .before .before .before .before .before .before .before .before .before .before .before .before .before .before .before .before .before .before .before .before .before .pre .1 .1) in
+    let l4 = answer-short (now (a .bytes)) (c .before .before .before .before .before .before .before .before .before .before .before .before .before .before .before .before .before .before .before .before .before .before .before .before .before .pre .1) in
     let s2 = length-append name checks in
     let s3 = length-append (name ++ checks) micros in
     let s4 = length-append (name ++ checks ++ micros) answer in
-    let told = c .before .before .before .before .before .before .before .before .before .before .before .before .before .before .before .before .before .before .before .before .before .before .name-text .ensures in
+    let told = c .before .before .before .before .before .before .before .before .before .before .before .before .before .before .before .before .before .before .before .before .before .before .outcome-name .ensures in
     let p2 = laid-both held _ _ 0 _ _ name checks (omega arith) (rw told at (c .before .before .before .before .before .before .before .before .before .before .before .before .before .before .before .before .before .before .before .append .ensures .0)) (rw told at (c .before .before .before .before .before .before .before .before .before .before .before .before .before .before .before .before .before .before .before .append .ensures .1)) (c .before .before .before .before .before .before .before .before .before .before .before .before .before .before .before .append-number .ensures .0) (c .before .before .before .before .before .before .before .before .before .before .before .before .before .before .before .append-number .ensures .1) in
     let p3 = laid-both held _ _ 0 _ _ (name ++ checks) micros (omega arith) (p2 .0) (p2 .1) (c .before .before .before .before .before .before .before .before .before .before .before .append-number2 .ensures .0) (c .before .before .before .before .before .before .before .before .before .before .before .append-number2 .ensures .1) in
     let p4 = laid-both held _ _ 0 _ _ (name ++ checks ++ micros) answer (omega arith) (p3 .0) (p3 .1) (c .before .before .before .before .before .before .before .append-answer .ensures .0) (c .before .before .before .before .before .before .before .append-answer .ensures .1) in
@@ -115,7 +118,7 @@ pub write-line-spec : {M : Type 1} → statement M
 write-line-spec =
     tie.close
     (tie.spec
-    name-text-requires
+    outcome-name-requires
     slice-aggregate-append
     append-requires
     append-number-requires

@@ -1,4 +1,4 @@
--- `answers::put` meets its contract. The loop's invariant: the first i bytes are copied, and the buffer is as long as it was.
+-- `buffers::put` meets its contract. The loop's invariant: the first i bytes are copied, and the buffer is as long as it was.
 -- Assumes nothing.
 use Prim.Native.Nat.{ℕ, suc, _≤_, _-_}
 use mathlib.Core.Path.{_≡_, refl, sym, ap, _∙_}
@@ -10,8 +10,8 @@ use borrow.Author.Tests.{le-leb, lt-leb}
 use lib.ListN.{length, getD, set, take, drop, length-set}
 use lib.Seq.{paste-suc, take-length}
 use denote.Ref.{now}
-use Rattle.answers.proofs.put.Statement.{statement}
-use Rattle.answers.proofs.put.Tie as tie
+use Rattle.buffers.proofs.put.Statement.{statement}
+use Rattle.buffers.proofs.put.Tie as tie
 
 abbrev Inv-loop : tie.InvT-loop
 Inv-loop buffer₀ bytes i₀ buffer i =

@@ -1,4 +1,4 @@
--- `session::move_down` meets its contract. The loop's invariant: n bytes are moved, and those behind them stand as they stood.
+-- `buffers::move_down` meets its contract. The loop's invariant: n bytes are moved, and those behind them stand as they stood.
 -- Assumes nothing.
 use Prim.Native.Nat.{ℕ, _+_, _-_, _≤_}
 use mathlib.Core.Path.{_≡_, refl, sym, ap, _∙_}
@@ -7,9 +7,9 @@ use native.Mathlib.Omega.{arith}
 use lib.ListN.{length, getD, set, take, drop, length-set}
 use borrow.Author.Tests.{lt-leb, le-leb}
 use denote.Ref.{now}
-use Rattle.session.proofs.Moved.{moved-more, moved-rest}
-use Rattle.session.proofs.move_down.Statement.{statement}
-use Rattle.session.proofs.move_down.Tie as tie
+use Rattle.buffers.proofs.Moved.{moved-more, moved-rest}
+use Rattle.buffers.proofs.move_down.Statement.{statement}
+use Rattle.buffers.proofs.move_down.Tie as tie
 
 abbrev Inv-loop : tie.InvT-loop
 Inv-loop buffer₀ from end left n₀ buffer n =

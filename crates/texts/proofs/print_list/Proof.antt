@@ -1,21 +1,20 @@
--- `lines::print_list` meets its contract: the line by the verdict's number, or nothing. Assumes nothing.
+-- `texts::print_list` meets its contract: the line by the verdict's number, or nothing. Assumes nothing.
 use Prim.Native.Nat.{ℕ, _≤_}
-use mathlib.Core.Path.{_≡_, refl, ap, _∙_, subst⁻¹}
+use mathlib.Core.Path.{_≡_, refl, sym, subst⁻¹}
 use mathlib.Core.Bool.{Bool, true, false}
-use native.Mathlib.Nat.{zero-add}
 use native.Mathlib.Omega.{arith}
 use lib.ListN.{length}
 use lib.Dec.{eqb, lit≤}
-use borrow.Author.Tests.{le-leb, lt-leb}
+use borrow.Author.Tests.{lt-leb}
 use denote.Ref.{now}
 use Rattle.rules.specs.declared.Verdict.{Verdict}
 use Rattle.rules.specs.declared.Verdict.the-variants.{Accepted, A1, A2, A3, A4, A5, A6, A7, A8}
 use Rattle.rules.specs.AccessList.{verdictNumber}
-use Rattle.lines.specs.Lines.{verdictText, listLine, laid, hasRoom}
-use Rattle.lines.proofs.Laid.{nothing-printed, all-printed}
+use Rattle.texts.specs.Texts.{verdictText, listLine, hasRoom}
+use Rattle.texts.proofs.Printing.{nothing-printed, put-printed}
 use borrow.Author.Needs.{needs}
-use Rattle.lines.proofs.print_list.Statement.{statement}
-use Rattle.lines.proofs.print_list.Tie as tie
+use Rattle.texts.proofs.print_list.Statement.{statement}
+use Rattle.texts.proofs.print_list.Tie as tie
 
 verdict-small : (v : Verdict) → verdictNumber v ≤ 8
 verdict-small Accepted = lit≤ tt
@@ -44,11 +43,11 @@ verdict-number-requires c κs = search needs
 list-text-requires : tie.Need-list-text-requires
 list-text-requires c κs = subst⁻¹ (λ (n : ℕ). n ≤ 8) (c .verdict-number .ensures) (verdict-small (c .before .before .before .args .verdict))
 
-slice-aggregate-append : tie.Need-slice-aggregate-append
-slice-aggregate-append c = search needs
+slice-aggregate-put : tie.Need-slice-aggregate-put
+slice-aggregate-put c = search needs
 
-append-requires : tie.Need-append-requires
-append-requires c κs = search needs
+put-requires : tie.Need-put-requires
+put-requires c κs = search needs
 
 same-length : tie.Need-same-length
 same-length c = search needs
@@ -57,20 +56,14 @@ returns-2 : tie.Need-returns-2
 unfolding listLine
 returns-2 c =
     let held = now (c .before .before .before .before .before .before .before .before .before .args .line) in
-    let wrote = c .before .before .append .ensures in
+    let number = c .before .before .before .before .before .before .verdict-number .result in
     let made = c .before .before .before .before .before .list-text .ensures in
-    let text = made ∙ ap (λ (n : ℕ). verdictText n) (c .before .before .before .before .before .before .verdict-number .ensures) in
-    all-printed held _ (hasRoom held) _ _ (le-leb 96 _ (c .before .before .before .before .before .before .before .if1 .left)) (wrote .0 ∙ zero-add _ ∙ ap length text) (wrote .1 ∙ ap (laid held 0) text)
-    (omega (arith, wrote .0, ap length made, list-eight (c .before .before .before .before .before .before .verdict-number .result)))
+    let wrote = rw made at (c .before .before .put .ensures) in
+    let eight = list-eight number in
+    rw (sym (c .before .before .before .before .before .before .verdict-number .ensures))
+    (put-printed held (verdictText number) _ _ (c .before .before .before .before .before .before .before .if1 .left) (omega arith) (wrote .0) (wrote .1))
 
 pub print-list-spec : {M : Type 1} → statement M
 print-list-spec =
     tie.close
-    (tie.spec
-    returns
-    verdict-number-requires
-    list-text-requires
-    slice-aggregate-append
-    append-requires
-    same-length
-    returns-2)
+    (tie.spec returns verdict-number-requires list-text-requires slice-aggregate-put put-requires same-length returns-2)

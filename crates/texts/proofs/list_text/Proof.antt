@@ -1,8 +1,8 @@
--- `lines::list_text` meets its contract. Assumes nothing.
+-- `texts::list_text` meets its contract. Assumes nothing.
 use borrow.Author.Tests.{eq-eqb, ne-eqb}
 use borrow.Author.Needs.{needs}
-use Rattle.lines.proofs.list_text.Statement.{statement}
-use Rattle.lines.proofs.list_text.Tie as tie
+use Rattle.texts.proofs.list_text.Statement.{statement}
+use Rattle.texts.proofs.list_text.Tie as tie
 
 returns : tie.Need-returns
 returns c = rw (eq-eqb _ 0 (c .if1 .taken))

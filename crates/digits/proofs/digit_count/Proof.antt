@@ -1,10 +1,10 @@
--- `lines::digit_count` meets its contract: each test has the next power of ten. Assumes nothing.
+-- `digits::digit_count` meets its contract: each test has the next power of ten. Assumes nothing.
 use mathlib.Core.Path.{sym, ap}
 use native.Mathlib.Omega.{arith}
 use lib.ListN.{length}
-use Rattle.lines.proofs.Digits.{counted, decimal-last}
-use Rattle.lines.proofs.digit_count.Statement.{statement}
-use Rattle.lines.proofs.digit_count.Tie as tie
+use Rattle.digits.proofs.Digits.{counted, decimal-last}
+use Rattle.digits.proofs.digit_count.Statement.{statement}
+use Rattle.digits.proofs.digit_count.Tie as tie
 
 returns : tie.Need-returns
 returns c = (sym (ap length (decimal-last 9 _ (omega arith))), omega arith)

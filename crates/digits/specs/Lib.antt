@@ -1,0 +1,2 @@
+-- Numbers as digits.
+pub mod Digits

@@ -1,0 +1,2 @@
+-- The texts that a session prints.
+pub mod Texts

@@ -1,0 +1,51 @@
+-- The names of outcomes and verdicts, the line that a list prints, the fixed lines, and how a line is laid over a buffer. As ASCII.
+-- Assumes nothing.
+use Prim.Native.Nat.{ℕ, _+_, _-_, _≤_}
+use mathlib.Core.Path.{_≡_}
+use mathlib.Core.Bool.{Bool, cond}
+use mathlib.Core.List.{List, [], _∷_, _++_}
+use lib.ListN.{length, take, drop}
+use lib.Dec.{eqb, leb, ltb}
+use Rattle.rules.specs.declared.Verdict.{Verdict}
+use Rattle.rules.specs.AccessList.{verdictNumber}
+
+-- OK, or N and R with their number
+abbrev pub outcomeName : ℕ → List ℕ
+outcomeName number =
+    cond (eqb number 0) (79 ∷ 75 ∷ []) (cond (ltb number 100) (78 ∷ (48 + number) ∷ []) (82 ∷ (number - 52) ∷ []))
+
+-- OK, or A with its number
+abbrev pub verdictName : ℕ → List ℕ
+verdictName number = cond (eqb number 0) (79 ∷ 75 ∷ []) (65 ∷ (48 + number) ∷ [])
+
+-- tag 1 prints `list OK` or `list A5`
+abbrev pub verdictText : ℕ → List ℕ
+verdictText number = (108 ∷ 105 ∷ 115 ∷ 116 ∷ 32 ∷ []) ++ verdictName number ++ (10 ∷ [])
+
+unfoldable pub listLine : Verdict → List ℕ
+listLine v = verdictText (verdictNumber v)
+
+-- `bad record` and `cut record`
+abbrev pub badLine : List ℕ
+badLine = 98 ∷ 97 ∷ 100 ∷ 32 ∷ 114 ∷ 101 ∷ 99 ∷ 111 ∷ 114 ∷ 100 ∷ 10 ∷ []
+
+abbrev pub cutLine : List ℕ
+cutLine = 99 ∷ 117 ∷ 116 ∷ 32 ∷ 114 ∷ 101 ∷ 99 ∷ 111 ∷ 114 ∷ 100 ∷ 10 ∷ []
+
+-- a text laid over what a buffer held, from place `at` on
+abbrev pub laid : List ℕ → ℕ → List ℕ → List ℕ
+laid held at text = take at held ++ text ++ drop (at + length text) held
+
+-- room for any line whose answer has at most 29 bytes
+abbrev pub hasRoom : List ℕ → Bool
+hasRoom line = leb 96 (length line)
+
+-- what is printed of a text: all of it, or nothing
+abbrev pub printed : Bool → List ℕ → List ℕ
+printed room text = cond room text []
+
+-- a text laid over the start of a line
+pub record Printed (line text line′ : List ℕ) (n : ℕ) : Type 0 where
+  pub count : n ≡ length text
+  pub over : line′ ≡ laid line 0 text
+  pub short : n ≤ 96
