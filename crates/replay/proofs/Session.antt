@@ -1,13 +1,14 @@
 -- A field carried out by its tag, the place of the next line, what a bad record ends, and what is left over. Assumes nothing.
-use Prim.Native.Nat.{ℕ, zero, suc, _+_, _-_, _≤_}
-use mathlib.Core.Path.{_≡_, refl, sym, ap, ap₂, _∙_, subst⁻¹}
+use Prim.Native.Nat.{ℕ, zero, suc, _+_, _-_, _≤_, min}
+use mathlib.Core.Path.{_≡_, refl, sym, ap, ap₂, _∙_, subst, subst⁻¹}
 use mathlib.Core.Bool.{Bool, true, false, _&&_, not}
 use mathlib.Core.List.{List, [], _∷_}
-use native.Mathlib.Nat.{zero-add, suc-add, add-sub-cancel-left}
+use native.Mathlib.Nat.{zero-add, suc-add, add-sub-cancel-left, min-eq-left, min-eq-right, le-of-lt}
 use native.Mathlib.Omega.{arith}
 use lib.ListN.{length, take, drop, length-take, length-drop}
-use lib.Seq.{take-nil}
-use borrow.Author.Tests.{le-leb, leb-true}
+use lib.Seq.{take-nil, take-all, take-length}
+use lib.Dec.{leb}
+use borrow.Author.Tests.{le-leb, leb-true, leb-false}
 use Rattle.rules.specs.Answer.{bufferAfter}
 use Rattle.fields.specs.declared.Found.the-variants.{Whole}
 use Rattle.fields.specs.Fields.{foundAt, wordsOf}
@@ -64,8 +65,8 @@ module _ (out : List ℕ) (used : ℕ) where
   pub place-behind : roomLeft out used ≡ true → used ≡ placeIn out used
   place-behind room = rw room
 
-  pub behind-fits : used ≤ length out → roomLeft out used ≡ true → used + 96 ≤ length out
-  behind-fits inside room = let left = leb-true 96 (length out - used) room in omega arith
+  pub behind-fits : roomLeft out used ≡ true → used + 96 ≤ length out
+  behind-fits room = let left = leb-true 96 (length out - used) room in omega arith
 
   pub place-anew : roomLeft out used ≡ false → 0 ≡ placeIn out used
   place-anew gone = rw gone
@@ -100,18 +101,35 @@ drop-of-take zero n l = ap (λ (k : ℕ). take k l) (sym (zero-add n))
 drop-of-take (suc at) n [] = take-nil n ∙ sym (ap (drop (suc at)) (take-nil (suc at + n)))
 drop-of-take (suc at) n (x ∷ l) = drop-of-take at n l ∙ ap (λ (k : ℕ). drop (suc at) (take k (x ∷ l))) (sym (suc-add at n))
 
-pub left-over : (input next : List ℕ) (m m′ : Memories) (end at held : ℕ) (goes : Bool) → at ≤ end → held ≡ end - at
-    → Reached (take end input) m at m′ → take held next ≡ take held (drop at input) → (goes ≡ true → waits (foundAt (take end input) at) ≡ true)
-    → LeftOver (take end input) m end next m′ held goes
-left-over input next m m′ end at held goes inside is there moved more =
-    let back : end - held ≡ at = omega arith in
-    let whole : at + held ≡ end = omega arith in
+-- no more than there is
+take-least : (n : ℕ) (l : List ℕ) → take (min n (length l)) l ≡ take n l
+take-least n l = go (leb n (length l)) refl
+  where
+    go : (b : Bool) → leb n (length l) ≡ b → take (min n (length l)) l ≡ take n l
+    go true short = ap (λ (k : ℕ). take k l) (min-eq-left (leb-true n (length l) short))
+    go false long =
+        let past : length l ≤ n = le-of-lt (leb-false n (length l) long) in
+        ap (λ (k : ℕ). take k l) (min-eq-right past) ∙ take-length l ∙ sym (take-all n l past)
+
+pub left-over : (input next : List ℕ) (m m′ : Memories) (end stop at held : ℕ) (goes : Bool) → stop ≡ min end (length input) → at ≤ stop → held ≡ stop - at
+    → Reached (take stop input) m at m′ → take held next ≡ take held (drop at input) → (goes ≡ true → waits (foundAt (take stop input) at) ≡ true)
+    → LeftOver (take end input) m next m′ held goes
+left-over input next m m′ end stop at held goes least inside is there moved more =
+    let size : length (take end input) ≡ stop = length-take end input ∙ sym least in
+    let same : take stop input ≡ take end input = ap (λ (k : ℕ). take k input) least ∙ take-least end input in
+    let back : length (take end input) - held ≡ at = omega arith in
+    let whole : at + held ≡ stop = omega arith in
     record {
       within = omega arith;
-      place = subst⁻¹ (λ (k : ℕ). Reached (take end input) m k m′) back there;
+      place =
+          subst⁻¹ (λ (k : ℕ). Reached (take end input) m k m′) back
+          (subst (λ (l : List ℕ). Reached l m at m′) same there);
       moved =
           moved
           ∙ drop-of-take at held input
-          ∙ ap₂ (λ (k n : ℕ). drop k (take n input)) (sym back) whole;
-      more = λ on. subst⁻¹ (λ (k : ℕ). waits (foundAt (take end input) k) ≡ true) back (more on);
+          ∙ ap₂ (λ (k n : ℕ). drop k (take n input)) (sym back) whole
+          ∙ ap (drop (length (take end input) - held)) same;
+      more =
+          λ on. subst⁻¹ (λ (k : ℕ). waits (foundAt (take end input) k) ≡ true) back
+          (subst (λ (l : List ℕ). waits (foundAt l at) ≡ true) same (more on));
     }

@@ -63,9 +63,9 @@ roomLeft out used = leb 96 (length out - used)
 abbrev pub placeIn : List ℕ → ℕ → ℕ
 placeIn out used = cond (roomLeft out used) used 0
 
--- what a buffer of `end` bytes leaves: its last bytes, at the start of the next; the session goes on only where more may come there
-pub record LeftOver (buffer : List ℕ) (m : Memories) (end : ℕ) (buffer′ : List ℕ) (m′ : Memories) (held : ℕ) (goes : Bool) : Type 0 where
-  pub within : held ≤ end
-  pub place : Reached buffer m (end - held) m′
-  pub moved : take held buffer′ ≡ drop (end - held) buffer
-  pub more : goes ≡ true → waits (foundAt buffer (end - held)) ≡ true
+-- what the bytes of a buffer leave: the last of them, at the start of the next; the session goes on only where more may come there
+pub record LeftOver (buffer : List ℕ) (m : Memories) (buffer′ : List ℕ) (m′ : Memories) (held : ℕ) (goes : Bool) : Type 0 where
+  pub within : held ≤ length buffer
+  pub place : Reached buffer m (length buffer - held) m′
+  pub moved : take held buffer′ ≡ drop (length buffer - held) buffer
+  pub more : goes ≡ true → waits (foundAt buffer (length buffer - held)) ≡ true

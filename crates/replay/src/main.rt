@@ -19,7 +19,7 @@ use session::ended;
 use session::has_room;
 use session::is_bad;
 use session::move_down;
-ghost use Prim.Native.Nat.{_+_, _-_, _≤_};
+ghost use Prim.Native.Nat.{_+_, _-_, _≤_, min};
 ghost use lib.ListN.{length, take};
 ghost use mathlib.Core.Path.{_≡_};
 ghost use mathlib.Core.Bool.{true, false};
@@ -30,7 +30,7 @@ ghost use Rattle.session.specs.Ends.{isBad};
 // What a field leaves: the length of the line it printed, and how many status words stand.
 struct Played {
     pub line: usize,
-    pub words: usize,
+    pub words: u8,
 }
 
 // Carries out a whole field, and writes the line that it prints, if any, over the start of `line`.
@@ -38,13 +38,12 @@ fn play_field(
     access: &mut [u16; 17],
     records: &mut [u32; 20],
     words: &mut [u32; 255],
-    count: usize,
+    count: u8,
     tag: u8,
     body: &[u8],
     line: &mut [u8],
 ) -> Played
-    requires { ⌜ count ≤ 255 ⌝ }
-    ensures { λ r. ⌜ (r .line ≤ 96) × (r .words ≤ 255) ⌝ }
+    ensures { λ r. ⌜ r .line ≤ 96 ⌝ }
     ensures { λ r. ⌜ PlayedField tag count (now (body .entry)) (now (access .entry)) (now (records .entry)) (now (words .entry)) (now (line .entry)) (now (access .exit)) (now (records .exit)) (now (words .exit)) (now (line .exit)) (r .line) (r .words) ⌝ }
 {
     if tag == 1 {
@@ -56,36 +55,44 @@ fn play_field(
     if tag == 2 {
         return Played {
             line: 0,
-            words: take_words(body, words),
+            words: take_words(body, words) as u8,
         };
     }
     let status = &words[..];
+    let standing = count as usize;
     Played {
-        line: message_line(access, records, body, &status[..count], line),
+        line: message_line(access, records, body, &status[..standing], line),
         words: count,
     }
 }
 
+// The first `used` bytes of a buffer, or all of it where it has no more.
+fn up_to(out: &[u8], used: usize) -> &[u8]
+    ensures { λ r. ⌜ now r ≡ take used (now (out .entry)) ⌝ }
+{
+    if out.len() < used {
+        return out;
+    }
+    &out[..used]
+}
+
 // Makes room for a line: where less than 96 bytes are left, the lines that are gathered are written.
 fn make_room(out: &[u8], used: usize) -> Gathered
-    requires { ⌜ used ≤ length (now out) ⌝ }
-    requires { ⌜ 96 ≤ length (now out) ⌝ }
     ensures { λ r. ⌜ r .used ≡ placeIn (now (out .entry)) used ⌝ }
-    ensures { λ r. ⌜ r .used + 96 ≤ length (now (out .entry)) ⌝ }
+    ensures { λ r. ⌜ (96 ≤ length (now (out .entry)) → r .used + 96 ≤ length (now (out .entry))) ⌝ }
     ensures { λ r. ⌜ (roomLeft (now (out .entry)) used ≡ true → r .good ≡ true) ⌝ }
 {
     if has_room(out.len(), used) {
         return Gathered { used, good: true };
     }
-    after_write(write_all(1, &out[..used]))
+    after_write(write_all(1, up_to(out, used)))
 }
 
 // Writes the lines that are gathered, and a last one behind them: not where the first write failed.
 fn finish(out: &[u8], used: usize, last: &[u8]) -> Written
-    requires { ⌜ used ≤ length (now out) ⌝ }
     ensures { λ r. ⌜ (r .last ≡ true → r .gathered ≡ true) ⌝ }
 {
-    let gathered = write_all(1, &out[..used]);
+    let gathered = write_all(1, up_to(out, used));
     if !gathered {
         return Written {
             gathered,
@@ -100,8 +107,7 @@ fn finish(out: &[u8], used: usize, last: &[u8]) -> Written
 
 // Ends the playing of a buffer where no whole field follows: the lines that are gathered are written,
 // and what a bad record prints.
-fn stopped(found: Found, at: usize, words: usize, out: &[u8], used: usize) -> Progress
-    requires { ⌜ used ≤ length (now out) ⌝ }
+fn stopped(found: Found, at: usize, words: u8, out: &[u8], used: usize) -> Progress
     ensures { λ r. ⌜ (r .at ≡ at) × (r .words ≡ words) × (isBad found ≡ true → r .goes ≡ false) ⌝ }
 {
     let bad = is_bad(found);
@@ -119,13 +125,12 @@ fn play(
     access: &mut [u16; 17],
     records: &mut [u32; 20],
     words: &mut [u32; 255],
-    count: usize,
+    count: u8,
     input: &[u8],
     output: &mut [u8],
 ) -> Progress
-    requires { ⌜ count ≤ 255 ⌝ }
     requires { ⌜ 96 ≤ length (now output) ⌝ }
-    ensures { λ r. ⌜ (r .at ≤ length (now (input .entry))) × (r .words ≤ 255) ⌝ }
+    ensures { λ r. ⌜ r .at ≤ length (now (input .entry)) ⌝ }
     ensures { λ r. ⌜ Reached (now (input .entry)) (memories (now (access .entry)) (now (records .entry)) (now (words .entry)) count) (r .at) (memories (now (access .exit)) (now (records .exit)) (now (words .exit)) (r .words)) ⌝ }
     ensures { λ r. ⌜ (r .goes ≡ true → waits (foundAt (now (input .entry)) (r .at)) ≡ true) ⌝ }
 {
@@ -164,8 +169,15 @@ fn play(
 // words stand, and whether it goes on.
 struct Stand {
     pub held: usize,
-    pub words: usize,
+    pub words: u8,
     pub goes: bool,
+}
+
+// Where the bytes that are played end: at `end`, or where the buffer does.
+fn within(end: usize) -> usize
+    ensures { λ r. ⌜ r ≡ min end 65536 ⌝ }
+{
+    if end < 65536 { end } else { 65536 }
 }
 
 // Plays the bytes of `input` up to `end`, and moves what is left over to its start.
@@ -173,24 +185,33 @@ fn play_held(
     access: &mut [u16; 17],
     records: &mut [u32; 20],
     words: &mut [u32; 255],
-    count: usize,
-    input: &mut [u8],
+    count: u8,
+    input: &mut [u8; 65536],
     end: usize,
-    output: &mut [u8],
+    output: &mut [u8; 65536],
 ) -> Stand
-    requires { ⌜ count ≤ 255 ⌝ }
-    requires { ⌜ end ≤ length (now input) ⌝ }
-    requires { ⌜ 96 ≤ length (now output) ⌝ }
-    ensures { λ r. ⌜ LeftOver (take end (now (input .entry))) (memories (now (access .entry)) (now (records .entry)) (now (words .entry)) count) end (now (input .exit)) (memories (now (access .exit)) (now (records .exit)) (now (words .exit)) (r .words)) (r .held) (r .goes) ⌝ }
-    ensures { λ r. ⌜ r .words ≤ 255 ⌝ }
+    ensures { λ r. ⌜ LeftOver (take end (now (input .entry))) (memories (now (access .entry)) (now (records .entry)) (now (words .entry)) count) (now (input .exit)) (memories (now (access .exit)) (now (records .exit)) (now (words .exit)) (r .words)) (r .held) (r .goes) ⌝ }
+    ensures { λ r. ⌜ r .held ≤ 65536 ⌝ }
 {
-    let played = play(access, records, words, count, &input[..end], output);
+    let stop = within(end);
+    let all = &mut input[..];
+    let played = play(access, records, words, count, &all[..stop], output);
     let at = played.at;
     Stand {
-        held: move_down(input, at, end),
+        held: move_down(all, at, stop),
         words: played.words,
         goes: played.goes,
     }
+}
+
+// Reads once, behind the first `held` bytes of `input`, and gives the number of bytes read.
+fn read_behind(input: &mut [u8], held: usize) -> usize
+    requires { ⌜ held ≤ length (now input) ⌝ }
+    ensures { λ r. ⌜ held + r ≤ length (now (input .entry)) ⌝ }
+{
+    let got = libc::read(0, &mut input[held..]);
+    let all = &input[..];
+    io::count(got, &all[held..])
 }
 
 // Reads once, behind the bytes left over, and plays what is there. At the end of the input a field
@@ -200,18 +221,15 @@ fn turn(
     records: &mut [u32; 20],
     words: &mut [u32; 255],
     stand: Stand,
-    input: &mut [u8],
-    output: &mut [u8],
+    input: &mut [u8; 65536],
+    output: &mut [u8; 65536],
 ) -> Stand
-    requires { ⌜ stand .words ≤ 255 ⌝ }
-    requires { ⌜ stand .held ≤ length (now input) ⌝ }
-    requires { ⌜ 96 ≤ length (now output) ⌝ }
-    ensures { λ r. ⌜ (r .words ≤ 255) × (r .held ≤ length (now (input .entry))) ⌝ }
+    requires { ⌜ stand .held ≤ 65536 ⌝ }
+    ensures { λ r. ⌜ r .held ≤ 65536 ⌝ }
 {
     let held = stand.held;
     let count = stand.words;
-    let got = libc::read(0, &mut input[held..]);
-    let more = io::count(got, &input[held..]);
+    let more = read_behind(input, held);
     if more == 0 {
         if 0 < held {
             write_all(1, &cut_line());

@@ -1,7 +1,6 @@
 -- `replay::make_room` meets its contract: the place behind, or a new start. Assumes nothing.
 use mathlib.Core.Path.{refl, sym, _∙_}
 use native.Mathlib.Omega.{arith}
-use lib.Seq.{length-take-le}
 use denote.Ref.{now}
 use Rattle.rules.proofs.Tests.{clash}
 use Rattle.replay.proofs.Session.{place-behind, behind-fits, place-anew}
@@ -16,12 +15,10 @@ returns : tie.Need-returns
 returns c =
     let a = c .before .before .before .args in
     let room = sym (c .before .has-room .ensures) ∙ c .if1 .taken in
-    (place-behind (now (a .out)) (a .used) room, (behind-fits (now (a .out)) (a .used) (omega arith) room, λ _. refl))
+    (place-behind (now (a .out)) (a .used) room, (λ _. behind-fits (now (a .out)) (a .used) room, λ _. refl))
 
-slice-aggregate-write-all : tie.Need-slice-aggregate-write-all
-slice-aggregate-write-all c =
-    let a = c .before .before .before .before .args in
-    sym (length-take-le (a .used) (now (a .out)) (omega arith))
+up-to-requires : tie.Need-up-to-requires
+up-to-requires c κs = search needs
 
 write-all-requires : tie.Need-write-all-requires
 write-all-requires c κs = search needs
@@ -34,7 +31,7 @@ returns-2 c =
     let a = c .before .before .before .before .before .before .args in
     let gone = sym (c .before .before .before .before .has-room .ensures) ∙ c .before .before .before .if1 .left in
     let wrote = c .after-write .ensures in
-    (wrote .0 ∙ place-anew (now (a .out)) (a .used) gone, (omega arith, λ t. clash t gone))
+    (wrote .0 ∙ place-anew (now (a .out)) (a .used) gone, (λ long. omega arith, λ t. clash t gone))
 
 pub make-room-spec : {M : Type 1} → statement M
 make-room-spec =
@@ -42,7 +39,7 @@ make-room-spec =
     (tie.spec
     has-room-requires
     returns
-    slice-aggregate-write-all
+    up-to-requires
     write-all-requires
     after-write-requires
     returns-2)

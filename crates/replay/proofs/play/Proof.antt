@@ -25,14 +25,14 @@ use Rattle.replay.proofs.play.Tie as tie
 
 abbrev Inv-loop : tie.InvT-loop
 Inv-loop access₀ records₀ words₀ count input output₀ at₀ used₀ stand₀ access records words output at used stand =
-    (at ≤ length input) × (stand ≤ 255) × (length output ≡ length output₀) × (used ≤ length output) × Reached input (memories access₀ records₀ words₀ count) at (memories access records words stand)
+    (at ≤ length input) × (length output ≡ length output₀) × (96 ≤ length output) × Reached input (memories access₀ records₀ words₀ count) at (memories access records words stand)
 
 abbrev μ-loop : tie.MeasureT-loop
 μ-loop access₀ records₀ words₀ count input output₀ at₀ used₀ stand₀ access records words output at used stand =
     length input - at
 
 loop-holds : tie.Need-loop-holds Inv-loop μ-loop
-loop-holds c = (search needs, search needs, search needs, search needs, start)
+loop-holds c = (search needs, search needs, search needs, start)
 
 find-requires : tie.Need-find-requires Inv-loop μ-loop
 find-requires c κs = search needs
@@ -60,7 +60,7 @@ returns c =
     let found = c .before .before .before .find .result in
     let input = now (c .before .before .before .before .before .before .before .args .input) in
     let same : found ≡ foundAt input (c .stopped .result .at) = c .before .before .before .find .ensures ∙ ap (foundAt input) (sym (told .0)) in
-    ((omega (arith, told .0), omega (arith, told .1)), (reached-same _ _ _ _ _ _ _ (c .before .before .before .before .loop .inv .4) _ _ (told .0) (told .1), λ on. sym (ap waits same) ∙ more-to-come found _ (c .before .before .match .keys2) (told .2) on))
+    (omega (arith, told .0), (reached-same _ _ _ _ _ _ _ (c .before .before .before .before .loop .inv .3) _ _ (told .0) (told .1), λ on. sym (ap waits same) ∙ more-to-come found _ (c .before .before .match .keys2) (told .2) on))
 
 add-start : tie.Need-add-start Inv-loop μ-loop
 add-start c = search needs
@@ -94,13 +94,13 @@ same-length-2 c = search needs
 returns-2 : tie.Need-returns-2 Inv-loop μ-loop
 returns-2 c =
     let told = c .ended .ensures in
-    ((omega (arith, told .0), omega (arith, told .1)), (reached-same _ _ _ _ _ _ _ (c .before .before .before .before .before .before .before .before .before .before .loop .inv .4) _ _ (told .0) (told .1), λ on. clash on (told .2 ∙ not-true _ (c .before .if1 .taken))))
+    (omega (arith, told .0), (reached-same _ _ _ _ _ _ _ (c .before .before .before .before .before .before .before .before .before .before .loop .inv .3) _ _ (told .0) (told .1), λ on. clash on (told .2 ∙ not-true _ (c .before .if1 .taken))))
 
 sub-play-field : tie.Need-sub-play-field Inv-loop μ-loop
-sub-play-field c = search needs
+sub-play-field c = omega (arith, c .before .before .before .before .before .make-room .ensures .1 .0 (c .before .before .before .before .before .before .before .before .before .before .before .before .loop .inv .2))
 
 part-play-field-start : tie.Need-part-play-field-start Inv-loop μ-loop
-part-play-field-start c = search needs
+part-play-field-start c = omega (arith, c .before .before .before .before .before .make-room .ensures .1 .0 (c .before .before .before .before .before .before .before .before .before .before .before .before .loop .inv .2))
 
 part-play-field-end : tie.Need-part-play-field-end Inv-loop μ-loop
 part-play-field-end c = search needs
@@ -109,13 +109,10 @@ play-field-requires : tie.Need-play-field-requires Inv-loop μ-loop
 play-field-requires c κs = search needs
 
 add-used : tie.Need-add-used Inv-loop μ-loop
-add-used c = omega (
-  arith,
-  c .before .before .before .before .before .before .before .before .before .before .make-room .ensures .1 .0,
-  c .before .before .before .play-field .ensures .0 .0,
-  c .before .before .before .before .before .before .before .before .before .before .before .before .before .before .before .before .before .loop .inv .2,
-  c .before .before .before .before .before .before .before .before .before .before .before .before .before .before .before .before .before .before .before .before .good .1 .1 .1 .1 .1 .0 .0,
-)
+add-used c =
+    let l = c .before .before .before .before .before .before .before .before .before .before .before .before .before .before .before .before .before .loop in
+    let room = c .before .before .before .before .before .before .before .before .before .before .make-room .ensures .1 .0 (l .inv .2) in
+    omega (arith, room, c .before .before .before .play-field .ensures .0, l .inv .1, c .before .before .before .before .before .before .before .before .before .before .before .before .before .before .before .before .before .before .before .before .good .1 .1 .1 .1 .1 .0 .0)
 
 loop-less : tie.Need-loop-less Inv-loop μ-loop
 loop-less c =
@@ -126,13 +123,11 @@ loop-again : tie.Need-loop-again Inv-loop μ-loop
 loop-again c =
     let ends = whole-ends _ _ _ _ (sym (c .before .before .before .before .before .before .before .before .before .before .before .before .before .before .found .given .1) ∙ c .before .before .before .before .before .before .before .before .before .before .before .before .before .before .before .before .find .ensures) in
     let played = c .before .before .before .play-field in
-    let told = played .ensures .0 in
     let l = c .before .before .before .before .before .before .before .before .before .before .before .before .before .before .before .before .before .loop in
     let place = c .before .before .before .before .before .before .before .before .before .before .make-room .result .used in
-    let room = c .before .before .before .before .before .before .before .before .before .before .make-room .ensures .1 .0 in
-    let fits : place + played .result .line ≤ length (l .output) = omega (arith, room, told .0) in
+    let room = c .before .before .before .before .before .before .before .before .before .before .make-room .ensures .1 .0 (l .inv .2) in
     let size = same-len-mid {X = ℕ} place (length (l .output) - place) (l .output) (played .last .1 .1 .1 .1 .1 .1 .0) (played .kept .1 .1 .1 .1 .1 .1 .0) in
-    (omega arith, told .1, size ∙ l .inv .2, subst⁻¹ (λ (n : ℕ). place + played .result .line ≤ n) size fits, reached-next _ _ _ _ _ _ _ (l .inv .4) _ _ _ _ _ _ _ _ _ (sym (sym (c .before .before .before .before .before .before .before .before .before .before .before .before .before .before .found .given .1) ∙ c .before .before .before .before .before .before .before .before .before .before .before .before .before .before .before .before .find .ensures)) (rest-long (l .output) place room) (played .ensures .1))
+    (omega arith, size ∙ l .inv .1, subst⁻¹ (λ (n : ℕ). 96 ≤ n) size (l .inv .2), reached-next _ _ _ _ _ _ _ (l .inv .3) _ _ _ _ _ _ _ _ _ (sym (sym (c .before .before .before .before .before .before .before .before .before .before .before .before .before .before .found .given .1) ∙ c .before .before .before .before .before .before .before .before .before .before .before .before .before .before .before .before .find .ensures)) (rest-long (l .output) place room) (played .ensures .1))
 
 pub play-spec : {M : Type 1} → statement M
 play-spec =

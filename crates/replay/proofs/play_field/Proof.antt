@@ -18,16 +18,19 @@ returns : tie.Need-returns
 returns c =
     let a = c .before .before .before .before .before .before .before .before .args in
     let played = c .before .before .list-line .ensures in
-    ((played .prints .short, omega arith), list-field (a .tag) (a .count) (now (a .body)) (now (a .access)) (now (a .records)) (now (a .words)) (now (a .line)) _ _ _ (c .before .before .before .before .before .if1 .taken) played)
+    (played .prints .short, list-field (a .tag) (a .count) (now (a .body)) (now (a .access)) (now (a .records)) (now (a .words)) (now (a .line)) _ _ _ (c .before .before .before .before .before .if1 .taken) played)
 
 take-words-requires : tie.Need-take-words-requires
 take-words-requires c κs = search needs
+
+cast-t17 : tie.Need-cast-t17
+cast-t17 c = search needs
 
 returns-2 : tie.Need-returns-2
 returns-2 c =
     let a = c .before .before .before .before .before .before .args in
     let taken = c .take-words .ensures in
-    ((omega arith, taken .1 .0), status-field (a .tag) (a .count) (now (a .body)) (now (a .access)) (now (a .records)) (now (a .words)) (now (a .line)) _ _ (c .before .before .if2 .taken) (taken .0) (taken .1 .1))
+    (omega arith, status-field (a .tag) (a .count) (now (a .body)) (now (a .access)) (now (a .records)) (now (a .words)) (now (a .line)) _ _ (c .before .before .if2 .taken) (taken .0) (taken .1 .1))
 
 slice-aggregate-message-line : tie.Need-slice-aggregate-message-line
 slice-aggregate-message-line c = sym (length-take-le (c .before .before .before .before .before .before .before .before .before .args .count) (now (c .before .before .before .before .before .before .before .before .before .args .words)) (search needs))
@@ -42,7 +45,7 @@ returns-3 : tie.Need-returns-3
 returns-3 c =
     let a = c .before .before .before .before .before .before .before .before .before .before .before .before .before .args in
     let played = c .before .before .message-line .ensures in
-    ((played .prints .short, omega arith), message-field (a .tag) (a .count) (now (a .body)) (now (a .access)) (now (a .records)) (now (a .words)) (now (a .line)) _ _ _ (c .before .before .before .before .before .before .before .before .before .before .if1 .left) (c .before .before .before .before .before .before .before .before .before .if2 .left) played)
+    (played .prints .short, message-field (a .tag) (a .count) (now (a .body)) (now (a .access)) (now (a .records)) (now (a .words)) (now (a .line)) _ _ _ (c .before .before .before .before .before .before .before .before .before .before .if1 .left) (c .before .before .before .before .before .before .before .before .before .if2 .left) played)
 
 pub play-field-spec : {M : Type 1} → statement M
 play-field-spec =
@@ -52,6 +55,7 @@ play-field-spec =
     same-length
     returns
     take-words-requires
+    cast-t17
     returns-2
     slice-aggregate-message-line
     message-line-requires
