@@ -1,4 +1,4 @@
--- A field carried out by its tag, the place of the next line, what a bad record ends, and what is left over. Assumes nothing.
+-- The place of the next line, what a bad record ends, and what is left over. Assumes nothing.
 use Prim.Native.Nat.{ℕ, zero, suc, _+_, _-_, _≤_, min}
 use mathlib.Core.Path.{_≡_, refl, sym, ap, ap₂, _∙_, subst, subst⁻¹}
 use mathlib.Core.Bool.{Bool, true, false, _&&_, not}
@@ -9,55 +9,10 @@ use lib.ListN.{length, take, drop, length-take, length-drop}
 use lib.Seq.{take-nil, take-all, take-length}
 use lib.Dec.{leb}
 use borrow.Author.Tests.{le-leb, leb-true, leb-false}
-use Rattle.rules.specs.Answer.{bufferAfter}
 use Rattle.fields.specs.declared.Found.the-variants.{Whole}
-use Rattle.fields.specs.Fields.{foundAt, wordsOf}
-use Rattle.recording.specs.Played.{PlayedList, PlayedMessage}
-use Rattle.replay.specs.Session.{PlayedField, LeftOver, Memories, memories, Reached, behind, waits, roomLeft, placeIn}
-
--- ---- a field by its tag
-
-module _ (tag count : ℕ) (body access records words line : List ℕ) where
-  pub list-field : (access′ line′ : List ℕ) (n : ℕ) → tag ≡ 1 → PlayedList access body line access′ line′ n
-      → PlayedField tag count body access records words line access′ records words line′ n count
-  list-field access′ line′ n is played =
-      record {
-        list = λ _. played;
-        status = λ e. absurd (omega arith);
-        message = λ f g. absurd (f is);
-        access-kept = λ f. absurd (f is);
-        words-kept = λ _. (refl, refl);
-        list-keeps = λ _. refl;
-        status-keeps = λ _. refl;
-      }
-
-  pub status-field : (words′ : List ℕ) (stand : ℕ) → tag ≡ 2
-      → stand ≡ length (take 255 (wordsOf body)) → words′ ≡ bufferAfter (take 255 (wordsOf body)) words
-      → PlayedField tag count body access records words line access records words′ line 0 stand
-  status-field words′ stand is size laid =
-      record {
-        list = λ e. absurd (omega arith);
-        status = λ _. record { count = size; memory = laid; silent = refl; kept = refl };
-        message = λ f g. absurd (g is);
-        access-kept = λ _. refl;
-        words-kept = λ f. absurd (f is);
-        list-keeps = λ _. refl;
-        status-keeps = λ _. refl;
-      }
-
-  pub message-field : (records′ line′ : List ℕ) (n : ℕ) → (tag ≡ 1 → ⊥) → (tag ≡ 2 → ⊥)
-      → PlayedMessage access records body (take count words) line records′ line′ n
-      → PlayedField tag count body access records words line access records′ words line′ n count
-  message-field records′ line′ n one two played =
-      record {
-        list = λ e. absurd (one e);
-        status = λ e. absurd (two e);
-        message = λ _ _. played;
-        access-kept = λ _. refl;
-        words-kept = λ _. (refl, refl);
-        list-keeps = λ e. absurd (one e);
-        status-keeps = λ e. absurd (two e);
-      }
+use Rattle.fields.specs.Fields.{foundAt}
+use Rattle.playing.specs.Tags.{PlayedField}
+use Rattle.replay.specs.Session.{LeftOver, Memories, memories, Reached, behind, waits, roomLeft, placeIn}
 
 -- ---- the place of the next line
 

@@ -4,12 +4,10 @@
 // is reported.
 use fields::Found;
 use fields::find;
-use fields::take_words;
 use io::write_all;
 use lines::bad_line;
 use lines::cut_line;
-use recording::list_line;
-use recording::message_line;
+use playing::play_field;
 use session::Gathered;
 use session::Progress;
 use session::Written;
@@ -24,47 +22,8 @@ ghost use lib.ListN.{length, take};
 ghost use mathlib.Core.Path.{_≡_};
 ghost use mathlib.Core.Bool.{true, false};
 ghost use Rattle.fields.specs.Fields.{foundAt};
-ghost use Rattle.replay.specs.Session.{PlayedField, LeftOver, memories, Reached, waits, roomLeft, placeIn};
+ghost use Rattle.replay.specs.Session.{LeftOver, memories, Reached, waits, roomLeft, placeIn};
 ghost use Rattle.session.specs.Ends.{isBad};
-
-// What a field leaves: the length of the line it printed, and how many status words stand.
-struct Played {
-    pub line: usize,
-    pub words: u8,
-}
-
-// Carries out a whole field, and writes the line that it prints, if any, over the start of `line`.
-fn play_field(
-    access: &mut [u16; 17],
-    records: &mut [u32; 20],
-    words: &mut [u32; 255],
-    count: u8,
-    tag: u8,
-    body: &[u8],
-    line: &mut [u8],
-) -> Played
-    ensures { λ r. ⌜ r .line ≤ 96 ⌝ }
-    ensures { λ r. ⌜ PlayedField tag count (now (body .entry)) (now (access .entry)) (now (records .entry)) (now (words .entry)) (now (line .entry)) (now (access .exit)) (now (records .exit)) (now (words .exit)) (now (line .exit)) (r .line) (r .words) ⌝ }
-{
-    if tag == 1 {
-        return Played {
-            line: list_line(access, body, line),
-            words: count,
-        };
-    }
-    if tag == 2 {
-        return Played {
-            line: 0,
-            words: take_words(body, words) as u8,
-        };
-    }
-    let status = &words[..];
-    let standing = count as usize;
-    Played {
-        line: message_line(access, records, body, &status[..standing], line),
-        words: count,
-    }
-}
 
 // The first `used` bytes of a buffer, or all of it where it has no more.
 fn up_to(out: &[u8], used: usize) -> &[u8]

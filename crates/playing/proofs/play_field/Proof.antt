@@ -1,12 +1,12 @@
--- `replay::play_field` meets its contract: each tag has its call, with the words that stand, and no more. Assumes nothing.
+-- `playing::play_field` meets its contract: each tag has its call, with the words that stand, and no more. Assumes nothing.
 use mathlib.Core.Path.{sym}
 use native.Mathlib.Omega.{arith}
 use lib.Seq.{length-take-le}
 use denote.Ref.{now}
-use Rattle.replay.proofs.Session.{list-field, status-field, message-field}
+use Rattle.playing.proofs.Tags.{list-field, status-field, message-field}
 use borrow.Author.Needs.{needs}
-use Rattle.replay.proofs.play_field.Statement.{statement}
-use Rattle.replay.proofs.play_field.Tie as tie
+use Rattle.playing.proofs.play_field.Statement.{statement}
+use Rattle.playing.proofs.play_field.Tie as tie
 
 list-line-requires : tie.Need-list-line-requires
 list-line-requires c κs = search needs
