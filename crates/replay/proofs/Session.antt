@@ -1,7 +1,7 @@
--- The place of the next line, what a bad record ends, and what is left over. Assumes nothing.
+-- Fields in their order, and what is left over. Assumes nothing.
 use Prim.Native.Nat.{ℕ, zero, suc, _+_, _-_, _≤_, min}
 use mathlib.Core.Path.{_≡_, refl, sym, ap, ap₂, _∙_, subst, subst⁻¹}
-use mathlib.Core.Bool.{Bool, true, false, _&&_, not}
+use mathlib.Core.Bool.{Bool, true, false}
 use mathlib.Core.List.{List, [], _∷_}
 use native.Mathlib.Nat.{zero-add, suc-add, add-sub-cancel-left, min-eq-left, min-eq-right, le-of-lt}
 use native.Mathlib.Omega.{arith}
@@ -12,28 +12,12 @@ use borrow.Author.Tests.{le-leb, leb-true, leb-false}
 use Rattle.fields.specs.declared.Found.the-variants.{Whole}
 use Rattle.fields.specs.Fields.{foundAt}
 use Rattle.playing.specs.Tags.{PlayedField}
-use Rattle.replay.specs.Session.{LeftOver, Memories, memories, Reached, behind, waits, roomLeft, placeIn}
+use Rattle.replay.specs.Session.{LeftOver, Memories, memories, Reached, behind, waits}
 
--- ---- the place of the next line
+-- ---- the rest of the output from a place on
 
-module _ (out : List ℕ) (used : ℕ) where
-  pub place-behind : roomLeft out used ≡ true → used ≡ placeIn out used
-  place-behind room = rw room
-
-  pub behind-fits : roomLeft out used ≡ true → used + 96 ≤ length out
-  behind-fits room = let left = leb-true 96 (length out - used) room in omega arith
-
-  pub place-anew : roomLeft out used ≡ false → 0 ≡ placeIn out used
-  place-anew gone = rw gone
-
-  -- the rest of the buffer from a place on
-  pub rest-long : used + 96 ≤ length out → 96 ≤ length (take (length out - used) (drop used out))
-  rest-long h = simp (length-take, length-drop) (omega arith)
-
--- ---- a bad record ends the session
-
-pub bad-ends : (bad written goes is : Bool) → bad ≡ is → goes ≡ (not bad && written) → is ≡ true → goes ≡ false
-bad-ends bad written goes is same told yea = told ∙ ap (λ (b : Bool). not b && written) (same ∙ yea)
+pub rest-long : (out : List ℕ) (used : ℕ) → used + 96 ≤ length out → 96 ≤ length (take (length out - used) (drop used out))
+rest-long out used h = simp (length-take, length-drop) (omega arith)
 
 -- ---- fields in their order
 

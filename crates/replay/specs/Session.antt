@@ -1,11 +1,9 @@
--- What the program promises of a session: fields carried out in their order, where lines are gathered, and what is left over.
--- Assumes nothing.
+-- What the program promises of a session: fields carried out in their order, and what is left over. Assumes nothing.
 use Prim.Native.Nat.{ℕ, _+_, _-_, _≤_}
 use mathlib.Core.Path.{_≡_}
-use mathlib.Core.Bool.{Bool, true, false, cond}
+use mathlib.Core.Bool.{Bool, true, false}
 use mathlib.Core.List.{List}
 use lib.ListN.{length, take, drop}
-use lib.Dec.{leb}
 use Rattle.fields.specs.declared.Found.{Found}
 use Rattle.fields.specs.declared.Found.the-variants.{Whole, Bad, Partial, Nothing}
 use Rattle.fields.specs.Fields.{foundAt}
@@ -38,13 +36,6 @@ pub data Reached : List ℕ → Memories → ℕ → Memories → Type 0 where
       → hasRoom line ≡ true
       → PlayedField tag (m′ .stand) (take n (drop (at + 3) buffer)) (m′ .access) (m′ .records) (m′ .words) line access records words line′ k stand
       → Reached buffer m (at + 3 + n) (memories access records words stand)
-
--- whether a line fits behind the bytes that are gathered, and where it goes: there, or to the start once they are written
-abbrev pub roomLeft : List ℕ → ℕ → Bool
-roomLeft out used = leb 96 (length out - used)
-
-abbrev pub placeIn : List ℕ → ℕ → ℕ
-placeIn out used = cond (roomLeft out used) used 0
 
 -- what the bytes of a buffer leave: the last of them, at the start of the next; the session goes on only where more may come there
 pub record LeftOver (buffer : List ℕ) (m : Memories) (buffer′ : List ℕ) (m′ : Memories) (held : ℕ) (goes : Bool) : Type 0 where

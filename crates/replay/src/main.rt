@@ -4,78 +4,19 @@
 // is reported.
 use fields::Found;
 use fields::find;
-use io::write_all;
-use lines::bad_line;
 use lines::cut_line;
+use output::make_room;
+use output::stopped;
 use playing::play_field;
-use session::Gathered;
 use session::Progress;
-use session::Written;
-use session::after_write;
-use session::both;
 use session::ended;
-use session::has_room;
-use session::is_bad;
 use session::move_down;
 ghost use Prim.Native.Nat.{_+_, _-_, _≤_, min};
 ghost use lib.ListN.{length, take};
 ghost use mathlib.Core.Path.{_≡_};
 ghost use mathlib.Core.Bool.{true, false};
 ghost use Rattle.fields.specs.Fields.{foundAt};
-ghost use Rattle.replay.specs.Session.{LeftOver, memories, Reached, waits, roomLeft, placeIn};
-ghost use Rattle.session.specs.Ends.{isBad};
-
-// The first `used` bytes of a buffer, or all of it where it has no more.
-fn up_to(out: &[u8], used: usize) -> &[u8]
-    ensures { λ r. ⌜ now r ≡ take used (now (out .entry)) ⌝ }
-{
-    if out.len() < used {
-        return out;
-    }
-    &out[..used]
-}
-
-// Makes room for a line: where less than 96 bytes are left, the lines that are gathered are written.
-fn make_room(out: &[u8], used: usize) -> Gathered
-    ensures { λ r. ⌜ r .used ≡ placeIn (now (out .entry)) used ⌝ }
-    ensures { λ r. ⌜ (96 ≤ length (now (out .entry)) → r .used + 96 ≤ length (now (out .entry))) ⌝ }
-    ensures { λ r. ⌜ (roomLeft (now (out .entry)) used ≡ true → r .good ≡ true) ⌝ }
-{
-    if has_room(out.len(), used) {
-        return Gathered { used, good: true };
-    }
-    after_write(write_all(1, up_to(out, used)))
-}
-
-// Writes the lines that are gathered, and a last one behind them: not where the first write failed.
-fn finish(out: &[u8], used: usize, last: &[u8]) -> Written
-    ensures { λ r. ⌜ (r .last ≡ true → r .gathered ≡ true) ⌝ }
-{
-    let gathered = write_all(1, up_to(out, used));
-    if !gathered {
-        return Written {
-            gathered,
-            last: false,
-        };
-    }
-    Written {
-        gathered,
-        last: write_all(1, last),
-    }
-}
-
-// Ends the playing of a buffer where no whole field follows: the lines that are gathered are written,
-// and what a bad record prints.
-fn stopped(found: Found, at: usize, words: u8, out: &[u8], used: usize) -> Progress
-    ensures { λ r. ⌜ (r .at ≡ at) × (r .words ≡ words) × (isBad found ≡ true → r .goes ≡ false) ⌝ }
-{
-    let bad = is_bad(found);
-    if bad {
-        let written = finish(out, used, &bad_line());
-        return ended(bad, both(written), at, words);
-    }
-    ended(bad, both(finish(out, used, b"")), at, words)
-}
+ghost use Rattle.replay.specs.Session.{LeftOver, memories, Reached, waits};
 
 // Plays every whole field of `input`. Lines are gathered in `output` and written when it is full and
 // at the end. A bad record and a write that fails end the session: it goes on only where no whole field
@@ -191,7 +132,7 @@ fn turn(
     let more = read_behind(input, held);
     if more == 0 {
         if 0 < held {
-            write_all(1, &cut_line());
+            io::write_all(1, &cut_line());
         }
         return Stand {
             held: 0,

@@ -1,12 +1,12 @@
--- `replay::make_room` meets its contract: the place behind, or a new start. Assumes nothing.
+-- `output::make_room` meets its contract: the place behind, or a new start. Assumes nothing.
 use mathlib.Core.Path.{refl, sym, _∙_}
 use native.Mathlib.Omega.{arith}
 use denote.Ref.{now}
 use Rattle.rules.proofs.Tests.{clash}
-use Rattle.replay.proofs.Session.{place-behind, behind-fits, place-anew}
+use Rattle.output.proofs.Room.{place-behind, behind-fits, place-anew}
 use borrow.Author.Needs.{needs}
-use Rattle.replay.proofs.make_room.Statement.{statement}
-use Rattle.replay.proofs.make_room.Tie as tie
+use Rattle.output.proofs.make_room.Statement.{statement}
+use Rattle.output.proofs.make_room.Tie as tie
 
 has-room-requires : tie.Need-has-room-requires
 has-room-requires c κs = search needs

@@ -1,10 +1,10 @@
--- `replay::up_to` meets its contract. Assumes nothing.
+-- `output::up_to` meets its contract. Assumes nothing.
 use mathlib.Core.Path.{refl, sym}
 use native.Mathlib.Omega.{arith}
 use lib.Seq.{take-all, length-take-le}
 use denote.Ref.{now}
-use Rattle.replay.proofs.up_to.Statement.{statement}
-use Rattle.replay.proofs.up_to.Tie as tie
+use Rattle.output.proofs.up_to.Statement.{statement}
+use Rattle.output.proofs.up_to.Tie as tie
 
 returns : tie.Need-returns
 returns c =

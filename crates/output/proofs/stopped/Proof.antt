@@ -1,8 +1,8 @@
--- `replay::stopped` meets its contract: a bad record ends the session. Assumes nothing.
+-- `output::stopped` meets its contract: a bad record ends the session. Assumes nothing.
 use borrow.Author.Needs.{needs}
-use Rattle.replay.proofs.Session.{bad-ends}
-use Rattle.replay.proofs.stopped.Statement.{statement}
-use Rattle.replay.proofs.stopped.Tie as tie
+use Rattle.output.proofs.Room.{bad-ends}
+use Rattle.output.proofs.stopped.Statement.{statement}
+use Rattle.output.proofs.stopped.Tie as tie
 
 is-bad-requires : tie.Need-is-bad-requires
 is-bad-requires c κs = search needs

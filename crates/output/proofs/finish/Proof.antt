@@ -1,11 +1,11 @@
--- `replay::finish` meets its contract. Assumes nothing.
+-- `output::finish` meets its contract. Assumes nothing.
 use mathlib.Core.Path.{refl, sym}
 use mathlib.Core.Bool.{false}
 use borrow.Author.Tests.{not-false}
 use Rattle.rules.proofs.Tests.{clash}
 use borrow.Author.Needs.{needs}
-use Rattle.replay.proofs.finish.Statement.{statement}
-use Rattle.replay.proofs.finish.Tie as tie
+use Rattle.output.proofs.finish.Statement.{statement}
+use Rattle.output.proofs.finish.Tie as tie
 
 up-to-requires : tie.Need-up-to-requires
 up-to-requires c κs = search needs
