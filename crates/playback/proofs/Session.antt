@@ -12,7 +12,7 @@ use borrow.Author.Tests.{le-leb, leb-true, leb-false}
 use Rattle.fields.specs.declared.Found.the-variants.{Whole}
 use Rattle.fields.specs.Fields.{foundAt}
 use Rattle.playing.specs.Tags.{PlayedField}
-use Rattle.replay.specs.Session.{LeftOver, Memories, memories, Reached, behind, waits}
+use Rattle.playback.specs.Session.{LeftOver, Memories, memories, Reached, behind, waits}
 
 -- ---- the rest of the output from a place on
 

@@ -1,4 +1,4 @@
--- `replay::play` meets its contract and ends: a whole field ends within the input, and each turn passes one. Assumes nothing.
+-- `playback::play` meets its contract and ends: a whole field ends within the input, and each turn passes one. Assumes nothing.
 use Prim.Native.Nat.{ℕ, _+_, _-_, _≤_}
 use mathlib.Core.Path.{_≡_, refl, sym, ap, subst⁻¹, _∙_}
 use mathlib.Core.Bool.{Bool, true, false}
@@ -16,12 +16,12 @@ use Rattle.fields.specs.declared.Found.{Found}
 use Rattle.fields.specs.declared.Found.the-variants.{Whole, Bad, Partial, Nothing}
 use Rattle.fields.specs.Fields.{foundAt}
 use Rattle.session.specs.Ends.{isBad}
-use Rattle.replay.specs.Session.{memories, Reached, start, waits}
-use Rattle.replay.proofs.Session.{reached-same, reached-next, rest-long}
+use Rattle.playback.specs.Session.{memories, Reached, start, waits}
+use Rattle.playback.proofs.Session.{reached-same, reached-next, rest-long}
 use Rattle.fields.proofs.Finds.{whole-ends}
 use borrow.Author.Needs.{needs}
-use Rattle.replay.proofs.play.Statement.{statement}
-use Rattle.replay.proofs.play.Tie as tie
+use Rattle.playback.proofs.play.Statement.{statement}
+use Rattle.playback.proofs.play.Tie as tie
 
 abbrev Inv-loop : tie.InvT-loop
 Inv-loop access₀ records₀ words₀ count input output₀ at₀ used₀ stand₀ access records words output at used stand =

@@ -1,4 +1,4 @@
--- `replay::play_held` meets its contract: what is not played is moved down. Assumes nothing.
+-- `playback::play_held` meets its contract: what is not played is moved down. Assumes nothing.
 use Prim.Native.Nat.{ℕ, _≤_, min}
 use mathlib.Core.Path.{_≡_, sym, ap, _∙_}
 use mathlib.Core.List.{List}
@@ -9,10 +9,10 @@ use lib.Seq.{length-take-le}
 use borrow.Author.Tests.{le-leb}
 use denote.Ref.{now}
 use Rattle.rules.proofs.Tests.{cond-true}
-use Rattle.replay.proofs.Session.{left-over}
+use Rattle.playback.proofs.Session.{left-over}
 use borrow.Author.Needs.{needs}
-use Rattle.replay.proofs.play_held.Statement.{statement}
-use Rattle.replay.proofs.play_held.Tie as tie
+use Rattle.playback.proofs.play_held.Statement.{statement}
+use Rattle.playback.proofs.play_held.Tie as tie
 
 length-part : (n : ℕ) (l : List ℕ) → length (take n l) ≤ n
 length-part n l = rw length-take (omega arith)
