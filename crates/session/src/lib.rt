@@ -41,12 +41,12 @@ pub fn both(w: Written) -> bool
 // and whether the session goes on.
 pub struct Progress {
     pub at: usize,
-    pub words: usize,
+    pub words: u8,
     pub goes: bool,
 }
 
 // Where the playing of a buffer ends. A bad record ends the session, and so does a write that failed.
-pub fn ended(bad: bool, written: bool, at: usize, words: usize) -> Progress
+pub fn ended(bad: bool, written: bool, at: usize, words: u8) -> Progress
     ensures { λ r. ⌜ (r .at ≡ at) × (r .words ≡ words) × (r .goes ≡ (not bad && written)) ⌝ }
 {
     Progress {

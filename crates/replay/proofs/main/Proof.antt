@@ -1,14 +1,12 @@
 -- `replay::main` ends: its turns are counted, up to more than any input has bytes. Assumes nothing.
 use Prim.Native.Nat.{_≤_, _-_}
-use mathlib.Core.Path.{_≡_}
-use lib.ListN.{length}
 use borrow.Author.Needs.{needs}
 use Rattle.replay.proofs.main.Statement.{statement}
 use Rattle.replay.proofs.main.Tie as tie
 
 abbrev Inv-loop : tie.InvT-loop
 Inv-loop access₀ records₀ words₀ input₀ output₀ stand₀ turns₀ access records words input output stand turns =
-    (length input ≡ 65536) × (length output ≡ 65536) × (stand .words ≤ 255) × (stand .held ≤ 65536)
+    stand .held ≤ 65536
 
 abbrev μ-loop : tie.MeasureT-loop
 μ-loop access₀ records₀ words₀ input₀ output₀ stand₀ turns₀ access records words input output stand turns =
@@ -25,12 +23,6 @@ loop-holds c = search needs
 
 returns : tie.Need-returns Inv-loop μ-loop
 returns c = search needs
-
-slice-aggregate-turn : tie.Need-slice-aggregate-turn Inv-loop μ-loop
-slice-aggregate-turn c = search needs
-
-slice-aggregate-turn-2 : tie.Need-slice-aggregate-turn-2 Inv-loop μ-loop
-slice-aggregate-turn-2 c = search needs
 
 turn-requires : tie.Need-turn-requires Inv-loop μ-loop
 turn-requires c κs = search needs
@@ -57,8 +49,6 @@ main-spec =
     large-buffer-requires-2
     loop-holds
     returns
-    slice-aggregate-turn
-    slice-aggregate-turn-2
     turn-requires
     add-turns
     loop-less

@@ -1,0 +1,2 @@
+-- Room for a line.
+pub mod Room

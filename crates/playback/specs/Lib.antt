@@ -1,0 +1,2 @@
+-- A session between two reads.
+pub mod Session

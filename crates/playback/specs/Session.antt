@@ -1,0 +1,45 @@
+-- A session between two reads: fields carried out in their order, and what is left over. Assumes nothing.
+use Prim.Native.Nat.{ℕ, _+_, _-_, _≤_}
+use mathlib.Core.Path.{_≡_}
+use mathlib.Core.Bool.{Bool, true, false}
+use mathlib.Core.List.{List}
+use lib.ListN.{length, take, drop}
+use Rattle.fields.specs.declared.Found.{Found}
+use Rattle.fields.specs.declared.Found.the-variants.{Whole, Bad, Partial, Nothing}
+use Rattle.fields.specs.Fields.{foundAt}
+use Rattle.texts.specs.Texts.{hasRoom}
+use Rattle.playing.specs.Tags.{PlayedField}
+
+-- what a session goes on from: the beginning of a field, with more to come, and the end of what was read
+abbrev pub waits : Found → Bool
+waits (Whole tag n) = false
+waits Bad = false
+waits Partial = true
+waits Nothing = true
+
+-- the two memories, the status words, and how many of these stand
+pub record Memories : Type 0 where
+  pub access : List ℕ
+  pub records : List ℕ
+  pub words : List ℕ
+  pub stand : ℕ
+
+abbrev pub memories : List ℕ → List ℕ → List ℕ → ℕ → Memories
+memories access records words stand = record { access = access; records = records; words = words; stand = stand }
+
+-- a buffer's fields carried out in their order: none, up to the start, or one more, behind those before it and with room for its line
+pub data Reached : List ℕ → Memories → ℕ → Memories → Type 0 where
+  start : {buffer : List ℕ} {m : Memories} → Reached buffer m 0 m
+  behind : {buffer : List ℕ} {m : Memories} {at : ℕ} {m′ : Memories} (tag n : ℕ) (line line′ access records words : List ℕ) (k stand : ℕ)
+      → Reached buffer m at m′
+      → foundAt buffer at ≡ Whole tag n
+      → hasRoom line ≡ true
+      → PlayedField tag (m′ .stand) (take n (drop (at + 3) buffer)) (m′ .access) (m′ .records) (m′ .words) line access records words line′ k stand
+      → Reached buffer m (at + 3 + n) (memories access records words stand)
+
+-- what the bytes of a buffer leave: the last of them, at the start of the next; the session goes on only where more may come there
+pub record LeftOver (buffer : List ℕ) (m : Memories) (buffer′ : List ℕ) (m′ : Memories) (held : ℕ) (goes : Bool) : Type 0 where
+  pub within : held ≤ length buffer
+  pub place : Reached buffer m (length buffer - held) m′
+  pub moved : take held buffer′ ≡ drop (length buffer - held) buffer
+  pub more : goes ≡ true → waits (foundAt buffer (length buffer - held)) ≡ true

@@ -1,0 +1,102 @@
+// Session recordings: the fields of a buffer carried out in their order, and what is left over for the
+// next read. The rules are specs/Session.antt, over a field carried out in the crate below.
+use buffers::move_down;
+use fields::Found;
+use fields::find;
+use output::make_room;
+use output::stopped;
+use playing::play_field;
+use session::Progress;
+use session::ended;
+ghost use Prim.Native.Nat.{_≤_, min};
+ghost use lib.ListN.{length, take};
+ghost use mathlib.Core.Path.{_≡_};
+ghost use mathlib.Core.Bool.{true};
+ghost use Rattle.fields.specs.Fields.{foundAt};
+ghost use Rattle.playback.specs.Session.{LeftOver, memories, Reached, waits};
+
+// Plays every whole field of `input`. Lines are gathered in `output` and written when it is full and
+// at the end. A bad record and a write that fails end the session: it goes on only where no whole field
+// is left.
+fn play(
+    access: &mut [u16; 17],
+    records: &mut [u32; 20],
+    words: &mut [u32; 255],
+    count: u8,
+    input: &[u8],
+    output: &mut [u8],
+) -> Progress
+    requires { ⌜ 96 ≤ length (now output) ⌝ }
+    ensures { λ r. ⌜ r .at ≤ length (now (input .entry)) ⌝ }
+    ensures { λ r. ⌜ Reached (now (input .entry)) (memories (now (access .entry)) (now (records .entry)) (now (words .entry)) count) (r .at) (memories (now (access .exit)) (now (records .exit)) (now (words .exit)) (r .words)) ⌝ }
+    ensures { λ r. ⌜ (r .goes ≡ true → waits (foundAt (now (input .entry)) (r .at)) ≡ true) ⌝ }
+{
+    let mut at = 0;
+    let mut used = 0;
+    let mut stand = count;
+    loop {
+        let found = find(input, at);
+        let Found::Whole(tag, length) = found else {
+            return stopped(found, at, stand, output, used);
+        };
+        let start = at + 3;
+        let end = start + length as usize;
+        let body = &input[start..end];
+        let room = make_room(output, used);
+        if !room.good {
+            return ended(false, room.good, at, stand);
+        }
+        let place = room.used;
+        let played = play_field(
+            access,
+            records,
+            words,
+            stand,
+            tag,
+            body,
+            &mut output[place..],
+        );
+        used = place + played.line;
+        stand = played.words;
+        at = end;
+    }
+}
+
+// Where a session stands between two reads: the bytes of the input that are left over, how many status
+// words stand, and whether it goes on.
+pub struct Stand {
+    pub held: usize,
+    pub words: u8,
+    pub goes: bool,
+}
+
+// Where the bytes that are played end: at `end`, or where the buffer does.
+fn within(end: usize) -> usize
+    ensures { λ r. ⌜ r ≡ min end 65536 ⌝ }
+{
+    if end < 65536 { end } else { 65536 }
+}
+
+// Plays the bytes of `input` up to `end`, and moves what is left over to its start.
+pub fn play_held(
+    access: &mut [u16; 17],
+    records: &mut [u32; 20],
+    words: &mut [u32; 255],
+    count: u8,
+    input: &mut [u8; 65536],
+    end: usize,
+    output: &mut [u8; 65536],
+) -> Stand
+    ensures { λ r. ⌜ LeftOver (take end (now (input .entry))) (memories (now (access .entry)) (now (records .entry)) (now (words .entry)) count) (now (input .exit)) (memories (now (access .exit)) (now (records .exit)) (now (words .exit)) (r .words)) (r .held) (r .goes) ⌝ }
+    ensures { λ r. ⌜ r .held ≤ 65536 ⌝ }
+{
+    let stop = within(end);
+    let all = &mut input[..];
+    let played = play(access, records, words, count, &all[..stop], output);
+    let at = played.at;
+    Stand {
+        held: move_down(all, at, stop),
+        words: played.words,
+        goes: played.goes,
+    }
+}

@@ -1,0 +1,63 @@
+-- `playing::play_field` meets its contract: each tag has its call, with the words that stand, and no more. Assumes nothing.
+use mathlib.Core.Path.{sym}
+use native.Mathlib.Omega.{arith}
+use lib.Seq.{length-take-le}
+use denote.Ref.{now}
+use Rattle.playing.proofs.Tags.{list-field, status-field, message-field}
+use borrow.Author.Needs.{needs}
+use Rattle.playing.proofs.play_field.Statement.{statement}
+use Rattle.playing.proofs.play_field.Tie as tie
+
+list-line-requires : tie.Need-list-line-requires
+list-line-requires c κs = search needs
+
+same-length : tie.Need-same-length
+same-length c = search needs
+
+returns : tie.Need-returns
+returns c =
+    let a = c .before .before .before .before .before .before .before .before .args in
+    let played = c .before .before .list-line .ensures in
+    (played .prints .short, list-field (a .tag) (a .count) (now (a .body)) (now (a .access)) (now (a .records)) (now (a .words)) (now (a .line)) _ _ _ (c .before .before .before .before .before .if1 .taken) played)
+
+take-words-requires : tie.Need-take-words-requires
+take-words-requires c κs = search needs
+
+cast-t17 : tie.Need-cast-t17
+cast-t17 c = search needs
+
+returns-2 : tie.Need-returns-2
+returns-2 c =
+    let a = c .before .before .before .before .before .before .args in
+    let taken = c .take-words .ensures in
+    (omega arith, status-field (a .tag) (a .count) (now (a .body)) (now (a .access)) (now (a .records)) (now (a .words)) (now (a .line)) _ _ (c .before .before .if2 .taken) (taken .0) (taken .1 .1))
+
+slice-aggregate-message-line : tie.Need-slice-aggregate-message-line
+slice-aggregate-message-line c = sym (length-take-le (c .before .before .before .before .before .before .before .before .before .args .count) (now (c .before .before .before .before .before .before .before .before .before .args .words)) (search needs))
+
+message-line-requires : tie.Need-message-line-requires
+message-line-requires c κs = search needs
+
+same-length-2 : tie.Need-same-length-2
+same-length-2 c = search needs
+
+returns-3 : tie.Need-returns-3
+returns-3 c =
+    let a = c .before .before .before .before .before .before .before .before .before .before .before .before .before .args in
+    let played = c .before .before .message-line .ensures in
+    (played .prints .short, message-field (a .tag) (a .count) (now (a .body)) (now (a .access)) (now (a .records)) (now (a .words)) (now (a .line)) _ _ _ (c .before .before .before .before .before .before .before .before .before .before .if1 .left) (c .before .before .before .before .before .before .before .before .before .if2 .left) played)
+
+pub play-field-spec : {M : Type 1} → statement M
+play-field-spec =
+    tie.close
+    (tie.spec
+    list-line-requires
+    same-length
+    returns
+    take-words-requires
+    cast-t17
+    returns-2
+    slice-aggregate-message-line
+    message-line-requires
+    same-length-2
+    returns-3)

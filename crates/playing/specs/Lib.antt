@@ -1,0 +1,2 @@
+-- A field by its tag.
+pub mod Tags

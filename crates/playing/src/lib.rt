@@ -1,0 +1,46 @@
+// Session recordings: a whole field carried out by its tag. The rules are specs/Tags.antt, over a list
+// and a message carried out in the crate below.
+use recording::list_line;
+use recording::message_line;
+use words::take_words;
+ghost use Prim.Native.Nat.{_≤_};
+ghost use Rattle.playing.specs.Tags.{PlayedField};
+
+// What a field leaves: the length of the line it printed, and how many status words stand.
+pub struct Played {
+    pub line: usize,
+    pub words: u8,
+}
+
+// Carries out a whole field, and writes the line that it prints, if any, over the start of `line`.
+pub fn play_field(
+    access: &mut [u16; 17],
+    records: &mut [u32; 20],
+    words: &mut [u32; 255],
+    count: u8,
+    tag: u8,
+    body: &[u8],
+    line: &mut [u8],
+) -> Played
+    ensures { λ r. ⌜ r .line ≤ 96 ⌝ }
+    ensures { λ r. ⌜ PlayedField tag count (now (body .entry)) (now (access .entry)) (now (records .entry)) (now (words .entry)) (now (line .entry)) (now (access .exit)) (now (records .exit)) (now (words .exit)) (now (line .exit)) (r .line) (r .words) ⌝ }
+{
+    if tag == 1 {
+        return Played {
+            line: list_line(access, body, line),
+            words: count,
+        };
+    }
+    if tag == 2 {
+        return Played {
+            line: 0,
+            words: take_words(body, words) as u8,
+        };
+    }
+    let status = &words[..];
+    let standing = count as usize;
+    Played {
+        line: message_line(access, records, body, &status[..standing], line),
+        words: count,
+    }
+}

@@ -1,2 +1,0 @@
--- What the program promises of a session.
-pub mod Session
