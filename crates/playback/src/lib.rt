@@ -77,7 +77,8 @@ fn within(end: usize) -> usize
     if end < 65536 { end } else { 65536 }
 }
 
-// Plays the bytes of `input` up to `end`, and moves what is left over to its start.
+// Plays the bytes of `input` up to `end`, or all of them where it has no more, and moves what is left over
+// to its start.
 pub fn play_held(
     access: &mut [u16; 17],
     records: &mut [u32; 20],

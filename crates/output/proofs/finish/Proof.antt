@@ -1,5 +1,5 @@
 -- `output::finish` meets its contract. Assumes nothing.
-use mathlib.Core.Path.{refl, sym}
+use mathlib.Core.Path.{refl}
 use mathlib.Core.Bool.{false}
 use borrow.Author.Tests.{not-false}
 use Rattle.rules.proofs.Tests.{clash}
