@@ -7,6 +7,7 @@ ghost use Prim.Native.Nat.{_-_};
 ghost use lib.Dec.{leb};
 ghost use Rattle.session.specs.Ends.{isBad};
 use fields::Found;
+use texts::ROOM;
 
 // Lines gathered: how many bytes, and whether the write went well, if there was one.
 pub struct Gathered {
@@ -75,5 +76,5 @@ pub fn has_room(size: usize, used: usize) -> bool
     if size < used {
         return false;
     }
-    96 <= size - used
+    ROOM <= size - used
 }
