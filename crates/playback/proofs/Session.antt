@@ -3,7 +3,7 @@ use Prim.Native.Nat.{ℕ, zero, suc, _+_, _-_, _≤_, min}
 use mathlib.Core.Path.{_≡_, refl, sym, ap, ap₂, _∙_, subst, subst⁻¹}
 use mathlib.Core.Bool.{Bool, true, false}
 use mathlib.Core.List.{List, [], _∷_}
-use native.Mathlib.Nat.{zero-add, suc-add, add-sub-cancel-left, min-eq-left, min-eq-right, le-of-lt}
+use native.Mathlib.Nat.{zero-add, suc-add, min-eq-left, min-eq-right, le-of-lt}
 use native.Mathlib.Omega.{arith}
 use lib.ListN.{length, take, drop, length-take, length-drop}
 use lib.Seq.{take-nil, take-all, take-length}
@@ -12,7 +12,8 @@ use borrow.Author.Tests.{le-leb, leb-true, leb-false}
 use Rattle.fields.specs.declared.Found.the-variants.{Whole}
 use Rattle.fields.specs.Fields.{foundAt}
 use Rattle.playing.specs.Tags.{PlayedField}
-use Rattle.playback.specs.Session.{LeftOver, Memories, memories, Reached, behind, waits}
+use Rattle.steps.specs.Next.{waits}
+use Rattle.playback.specs.Session.{LeftOver, Memories, memories, Reached, behind}
 
 -- ---- the rest of the output from a place on
 
@@ -25,12 +26,14 @@ module _ (buffer : List ℕ) (m : Memories) (at : ℕ) (access records words : L
   pub reached-same : (at′ stand′ : ℕ) → at′ ≡ at → stand′ ≡ stand → Reached buffer m at′ (memories access records words stand′)
   reached-same at′ stand′ p q = rw (p, q) reached
 
-  pub reached-next : (tag n : ℕ) (line line′ access′ records′ words′ : List ℕ) (k stand′ : ℕ) → foundAt buffer at ≡ Whole tag n
-      → 96 ≤ length line
-      → PlayedField tag stand (take (at + 3 + n - (at + 3)) (drop (at + 3) buffer)) access records words line access′ records′ words′ line′ k stand′
-      → Reached buffer m (at + 3 + n) (memories access′ records′ words′ stand′)
-  reached-next tag n line line′ access′ records′ words′ k stand′ found long played =
-      behind tag n line line′ access′ records′ words′ k stand′ reached found (le-leb 96 (length line) long) (rw (add-sub-cancel-left (at + 3) n) at played)
+  pub reached-next : (tag end : ℕ) (line line′ access′ records′ words′ : List ℕ) (k stand′ : ℕ) → foundAt buffer at ≡ Whole tag (end - (at + 3))
+      → at + 3 ≤ end → 96 ≤ length line
+      → PlayedField tag stand (take (end - (at + 3)) (drop (at + 3) buffer)) access records words line access′ records′ words′ line′ k stand′
+      → Reached buffer m end (memories access′ records′ words′ stand′)
+  reached-next tag end line line′ access′ records′ words′ k stand′ found body long played =
+      let there : at + 3 + (end - (at + 3)) ≡ end = omega arith in
+      subst (λ (n : ℕ). Reached buffer m n (memories access′ records′ words′ stand′)) there
+      (behind tag (end - (at + 3)) line line′ access′ records′ words′ k stand′ reached found (le-leb 96 (length line) long) played)
 
 -- ---- what is left over
 

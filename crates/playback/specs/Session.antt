@@ -4,18 +4,11 @@ use mathlib.Core.Path.{_≡_}
 use mathlib.Core.Bool.{Bool, true, false}
 use mathlib.Core.List.{List}
 use lib.ListN.{length, take, drop}
-use Rattle.fields.specs.declared.Found.{Found}
-use Rattle.fields.specs.declared.Found.the-variants.{Whole, Bad, Partial, Nothing}
+use Rattle.fields.specs.declared.Found.the-variants.{Whole}
 use Rattle.fields.specs.Fields.{foundAt}
 use Rattle.texts.specs.Texts.{hasRoom}
 use Rattle.playing.specs.Tags.{PlayedField}
-
--- what a session goes on from: the beginning of a field, with more to come, and the end of what was read
-abbrev pub waits : Found → Bool
-waits (Whole tag n) = false
-waits Bad = false
-waits Partial = true
-waits Nothing = true
+use Rattle.steps.specs.Next.{waits}
 
 -- the two memories, the status words, and how many of these stand
 pub record Memories : Type 0 where

@@ -1,19 +1,17 @@
 // Session recordings: the fields of a buffer carried out in their order, and what is left over for the
 // next read. The rules are specs/Session.antt, over a field carried out in the crate below.
 use buffers::move_down;
-use fields::Found;
-use fields::find;
-use output::make_room;
-use output::stopped;
 use playing::play_field;
 use session::Progress;
-use session::ended;
+use steps::Next;
+use steps::next_field;
 ghost use Prim.Native.Nat.{_≤_, min};
 ghost use lib.ListN.{length, take};
 ghost use mathlib.Core.Path.{_≡_};
 ghost use mathlib.Core.Bool.{true};
 ghost use Rattle.fields.specs.Fields.{foundAt};
-ghost use Rattle.playback.specs.Session.{LeftOver, memories, Reached, waits};
+ghost use Rattle.steps.specs.Next.{waits};
+ghost use Rattle.playback.specs.Session.{LeftOver, memories, Reached};
 
 // Plays every whole field of `input`. Lines are gathered in `output` and written when it is full and
 // at the end. A bad record and a write that fails end the session: it goes on only where no whole field
@@ -35,30 +33,25 @@ fn play(
     let mut used = 0;
     let mut stand = count;
     loop {
-        let found = find(input, at);
-        let Found::Whole(tag, length) = found else {
-            return stopped(found, at, stand, output, used);
-        };
-        let start = at + 3;
-        let end = start + length as usize;
-        let body = &input[start..end];
-        let room = make_room(output, used);
-        if !room.good {
-            return ended(false, room.good, at, stand);
+        let next = next_field(input, at, stand, output, used);
+        match next {
+            Next::Over(progress) => return progress,
+            Next::Field(tag, end, place) => {
+                let start = at + 3;
+                let played = play_field(
+                    access,
+                    records,
+                    words,
+                    stand,
+                    tag,
+                    &input[start..end],
+                    &mut output[place..],
+                );
+                used = place + played.line;
+                stand = played.words;
+                at = end;
+            }
         }
-        let place = room.used;
-        let played = play_field(
-            access,
-            records,
-            words,
-            stand,
-            tag,
-            body,
-            &mut output[place..],
-        );
-        used = place + played.line;
-        stand = played.words;
-        at = end;
     }
 }
 

@@ -1,0 +1,2 @@
+-- What comes next in a buffer.
+pub mod Next
