@@ -11,7 +11,7 @@ use lib.Dec.{leb}
 use borrow.Author.Tests.{le-leb, leb-true, leb-false}
 use Rattle.fields.specs.declared.Found.the-variants.{Whole}
 use Rattle.fields.specs.Fields.{foundAt}
-use Rattle.playing.specs.Tags.{PlayedField}
+use Rattle.playing.specs.ByTag.{PlayedField}
 use Rattle.steps.specs.Next.{waits}
 use Rattle.playback.specs.Session.{LeftOver, Memories, memories, Reached, behind}
 

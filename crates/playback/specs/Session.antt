@@ -7,7 +7,7 @@ use lib.ListN.{length, take, drop}
 use Rattle.fields.specs.declared.Found.the-variants.{Whole}
 use Rattle.fields.specs.Fields.{foundAt}
 use Rattle.texts.specs.Texts.{hasRoom}
-use Rattle.playing.specs.Tags.{PlayedField}
+use Rattle.playing.specs.ByTag.{PlayedField}
 use Rattle.steps.specs.Next.{waits}
 
 -- the two memories, the status words, and how many of these stand

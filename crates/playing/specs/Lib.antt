@@ -1,2 +1,2 @@
 -- A field by its tag.
-pub mod Tags
+pub mod ByTag

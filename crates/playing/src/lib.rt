@@ -1,10 +1,10 @@
-// Session recordings: a whole field carried out by its tag. The rules are specs/Tags.antt, over a list
+// Session recordings: a whole field carried out by its tag. The rules are specs/ByTag.antt, over a list
 // and a message carried out in the crate below.
 use recording::list_line;
 use recording::message_line;
 use words::take_words;
 ghost use Prim.Native.Nat.{_≤_};
-ghost use Rattle.playing.specs.Tags.{PlayedField};
+ghost use Rattle.playing.specs.ByTag.{PlayedField};
 
 // What a field leaves: the length of the line it printed, and how many status words stand.
 pub struct Played {

@@ -3,7 +3,7 @@ use mathlib.Core.Path.{sym}
 use native.Mathlib.Omega.{arith}
 use lib.Seq.{length-take-le}
 use denote.Ref.{now}
-use Rattle.playing.proofs.Tags.{list-field, status-field, message-field}
+use Rattle.playing.proofs.ByTag.{list-field, status-field, message-field}
 use borrow.Author.Needs.{needs}
 use Rattle.playing.proofs.play_field.Statement.{statement}
 use Rattle.playing.proofs.play_field.Tie as tie

@@ -7,7 +7,7 @@ use lib.ListN.{length, take}
 use Rattle.rules.specs.Answer.{bufferAfter}
 use Rattle.words.specs.Words.{wordsOf}
 use Rattle.recording.specs.Played.{PlayedList, PlayedMessage}
-use Rattle.playing.specs.Tags.{PlayedField}
+use Rattle.playing.specs.ByTag.{PlayedField}
 
 module _ (tag count : ℕ) (body access records words line : List ℕ) where
   pub list-field : (access′ line′ : List ℕ) (n : ℕ) → tag ≡ 1 → PlayedList access body line access′ line′ n
