@@ -1,15 +1,13 @@
-// Set config and set control: the boot vector and the flags of a processor.
-// Each function tests the rows of document 01's outcome table from N4 on, in its order; the rows above
-// are passed when it is called. OK changes the record in the lent memory, and a refusal leaves it.
+// Set config: the boot vector and the config word of a processor. The function tests the rows of document 01's outcome table
+// from N4 on, in its order; the rows above are passed when it is called. OK changes the record in the
+// lent memory, and a refusal leaves it.
 ghost use mathlib.Core.List.{[]};
-ghost use Rattle.rules.specs.declared.Kind.the-variants.{SetConfig, SetControl};
+ghost use Rattle.rules.specs.declared.Kind.the-variants.{SetConfig};
 ghost use Rattle.operations.specs.Operation.{asked, CarriesByController};
 use board::ROWS;
 use board::class_at;
 use effects::with_config;
-use effects::with_control;
 use operands::config_good;
-use operands::control_good;
 use operations::row_in;
 use records::load;
 use records::store;
@@ -36,27 +34,5 @@ pub fn set_config(records: &mut [u32], channel: u8, message: &[u8]) -> Outcome
         return Outcome::N8;
     }
     store(records, row, with_config(message, state));
-    Outcome::Ok
-}
-
-// Set control: the sender is the controller, and the flags may be set. The control word is changed.
-pub fn set_control(records: &mut [u32], channel: u8, message: &[u8]) -> Outcome
-    ensures { λ r. ⌜ CarriesByController SetControl (now (records .entry)) (asked channel (now (message .entry)) []) (now (records .exit)) r ⌝ }
-{
-    if message.len() < 17 {
-        return Outcome::N4;
-    }
-    let row = row_in(message);
-    if ROWS <= row {
-        return Outcome::N6;
-    }
-    let state = load(records, row);
-    if !is_controller(state, channel) {
-        return Outcome::N7;
-    }
-    if !control_good(class_at(row), message) {
-        return Outcome::N8;
-    }
-    store(records, row, with_control(message, state));
     Outcome::Ok
 }

@@ -1,43 +1,24 @@
-// Request and release: who controls a processor. Each function tests the rows of document
-// 01's outcome table from N4 on, in its order; the rows above are passed when it is called. OK changes
-// the record in the lent memory, and a refusal leaves it.
+// Set control: the control word of a processor. The function tests the rows of document 01's outcome table
+// from N4 on, in its order; the rows above are passed when it is called. OK changes the record in the
+// lent memory, and a refusal leaves it.
 ghost use mathlib.Core.List.{[]};
-ghost use Rattle.rules.specs.declared.Kind.the-variants.{Request, Release};
-ghost use Rattle.operations.specs.Operation.{asked, Carries, CarriesByController};
+ghost use Rattle.rules.specs.declared.Kind.the-variants.{SetControl};
+ghost use Rattle.operations.specs.Operation.{asked, CarriesByController};
 use board::ROWS;
-use effects::held_by;
+use board::class_at;
+use effects::with_control;
+use operands::control_good;
 use operations::row_in;
 use records::load;
 use records::store;
 use rights::is_controller;
-use rights::may_request;
 use rules::Outcome;
 
-// Request: the processor is free and the sender permitted, or the sender is its recovery master. The
-// sender controls.
-pub fn request(access: &[u16], records: &mut [u32], channel: u8, message: &[u8]) -> Outcome
-    ensures { λ r. ⌜ Carries Request (now (access .entry)) (now (records .entry)) (asked channel (now (message .entry)) []) (now (records .exit)) r ⌝ }
+// Set control: the sender is the controller, and the flags may be set. The control word is changed.
+pub fn set_control(records: &mut [u32], channel: u8, message: &[u8]) -> Outcome
+    ensures { λ r. ⌜ CarriesByController SetControl (now (records .entry)) (asked channel (now (message .entry)) []) (now (records .exit)) r ⌝ }
 {
-    if message.len() < 9 {
-        return Outcome::N4;
-    }
-    let row = row_in(message);
-    if ROWS <= row {
-        return Outcome::N6;
-    }
-    let state = load(records, row);
-    if !may_request(access, row, state, channel) {
-        return Outcome::N7;
-    }
-    store(records, row, held_by(channel, state));
-    Outcome::Ok
-}
-
-// Release: the sender is the controller. The processor is free, and the other fields are kept.
-pub fn release(records: &mut [u32], channel: u8, message: &[u8]) -> Outcome
-    ensures { λ r. ⌜ CarriesByController Release (now (records .entry)) (asked channel (now (message .entry)) []) (now (records .exit)) r ⌝ }
-{
-    if message.len() < 9 {
+    if message.len() < 17 {
         return Outcome::N4;
     }
     let row = row_in(message);
@@ -48,6 +29,9 @@ pub fn release(records: &mut [u32], channel: u8, message: &[u8]) -> Outcome
     if !is_controller(state, channel) {
         return Outcome::N7;
     }
-    store(records, row, held_by(0, state));
+    if !control_good(class_at(row), message) {
+        return Outcome::N8;
+    }
+    store(records, row, with_control(message, state));
     Outcome::Ok
 }

@@ -1,16 +1,17 @@
 // The rows of document 01's outcome table from N3 on: the type decides which function carries the
-// message out. Each type's function is in crate control, handover, config, boot, watch or waits.
+// message out. Each type's function is in a crate of its own: request, release, handover, config, control,
+// boot, watch and waits.
 ghost use Rattle.operations.specs.Operation.{asked};
 ghost use Rattle.dispatch.specs.Dispatched.{DecidesKind};
 use boot::authenticated_boot;
 use config::set_config;
-use config::set_control;
-use control::release;
-use control::request;
+use control::set_control;
 use handover::handover;
 use messages::kind_of;
 use operations::Decision;
 use operations::unwaited;
+use release::release;
+use request::request;
 use rules::Kind;
 use rules::Outcome;
 use waits::wait_status;

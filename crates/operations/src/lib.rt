@@ -1,6 +1,6 @@
 // What the functions of the message types share: the row of the processor that a message names, and
-// what a message comes to. The types themselves are in crates control, config and watch, and the rows
-// of document 01's outcome table that they test, from N4 on, in specs/Operation.antt.
+// what a message comes to. Each type is in a crate of its own above, and the rows of document 01's
+// outcome table that they test, from N4 on, are in specs/Operation.antt.
 ghost use mathlib.Core.Path.{_≡_};
 ghost use Rattle.rules.specs.Board.{ours, rowOf};
 ghost use Rattle.rules.specs.Message.{processorOf};

@@ -1,4 +1,4 @@
--- `config::set_control` meets its contract: N4 to N8 by a law for each, and the control word changes. Assumes nothing.
+-- `control::set_control` meets its contract: N4 to N8 by a law for each, and the control word changes. Assumes nothing.
 use mathlib.Core.Path.{refl}
 use mathlib.Core.List.{[]}
 use denote.Ref.{now}
@@ -8,8 +8,8 @@ use Rattle.rules.specs.Outcome.{controlGood}
 use Rattle.operations.specs.Operation.{asked}
 use Rattle.operations.proofs.Rows.{Loaded, loaded-at, too-short, off-board, lacks-right, by-class, wrong-operands, admitted, refuses, carries}
 use borrow.Author.Needs.{needs}
-use Rattle.config.proofs.set_control.Statement.{statement}
-use Rattle.config.proofs.set_control.Tie as tie
+use Rattle.control.proofs.set_control.Statement.{statement}
+use Rattle.control.proofs.set_control.Tie as tie
 
 abbrev start : tie.After-load → tie.Start
 start c = c .before .before .before .before .before .before .before

@@ -1,4 +1,4 @@
--- `control::release` meets its contract: N4, N6 and N7 by a law for each, and nobody controls. Assumes nothing.
+-- `release::release` meets its contract: N4, N6 and N7 by a law for each, and nobody controls. Assumes nothing.
 use mathlib.Core.Path.{refl}
 use mathlib.Core.List.{[]}
 use denote.Ref.{now}
@@ -7,8 +7,8 @@ use Rattle.rules.specs.Message.{Query}
 use Rattle.operations.specs.Operation.{asked}
 use Rattle.operations.proofs.Rows.{Loaded, loaded-at, too-short, off-board, lacks-right, admitted, refuses, carries}
 use borrow.Author.Needs.{needs}
-use Rattle.control.proofs.release.Statement.{statement}
-use Rattle.control.proofs.release.Tie as tie
+use Rattle.release.proofs.release.Statement.{statement}
+use Rattle.release.proofs.release.Tie as tie
 
 abbrev start : tie.After-load → tie.Start
 start c = c .before .before .before .before .before .before .before

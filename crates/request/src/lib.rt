@@ -1,0 +1,33 @@
+// Request: a host takes a processor. The function tests the rows of document 01's outcome table
+// from N4 on, in its order; the rows above are passed when it is called. OK changes the record in the
+// lent memory, and a refusal leaves it.
+ghost use mathlib.Core.List.{[]};
+ghost use Rattle.rules.specs.declared.Kind.the-variants.{Request};
+ghost use Rattle.operations.specs.Operation.{asked, Carries};
+use board::ROWS;
+use effects::held_by;
+use operations::row_in;
+use records::load;
+use records::store;
+use rights::may_request;
+use rules::Outcome;
+
+// Request: the processor is free and the sender permitted, or the sender is its recovery master. The
+// sender controls.
+pub fn request(access: &[u16], records: &mut [u32], channel: u8, message: &[u8]) -> Outcome
+    ensures { λ r. ⌜ Carries Request (now (access .entry)) (now (records .entry)) (asked channel (now (message .entry)) []) (now (records .exit)) r ⌝ }
+{
+    if message.len() < 9 {
+        return Outcome::N4;
+    }
+    let row = row_in(message);
+    if ROWS <= row {
+        return Outcome::N6;
+    }
+    let state = load(records, row);
+    if !may_request(access, row, state, channel) {
+        return Outcome::N7;
+    }
+    store(records, row, held_by(channel, state));
+    Outcome::Ok
+}
