@@ -1,6 +1,6 @@
-// Set control: the control word of a processor. The function tests the rows of document 01's outcome table
-// from N4 on, in its order; the rows above are passed when it is called. OK changes the record in the
-// lent memory, and a refusal leaves it.
+// Set control: the control word of a processor. The function tests the rows of document 01's
+// outcome table from N4 on, in its order; the rows above are passed when it is called. OK changes
+// the record in the lent memory, and a refusal leaves it.
 ghost use mathlib.Core.List.{[]};
 ghost use Rattle.rules.specs.declared.Kind.the-variants.{SetControl};
 ghost use Rattle.operations.specs.Operation.{asked, CarriesByController};

@@ -12,7 +12,7 @@ use borrow.Author.Tests.{le-leb, leb-true, leb-false}
 use Rattle.fields.specs.declared.Found.the-variants.{Whole}
 use Rattle.fields.specs.Fields.{foundAt}
 use Rattle.playing.specs.ByTag.{PlayedField}
-use Rattle.steps.specs.Next.{waits}
+use Rattle.steps.specs.Next.{waits, NoneAt}
 use Rattle.playback.specs.Session.{LeftOver, Memories, memories, Reached, behind}
 
 -- ---- the rest of the output from a place on
@@ -54,9 +54,9 @@ take-least n l = go (leb n (length l)) refl
         ap (λ (k : ℕ). take k l) (min-eq-right past) ∙ take-length l ∙ sym (take-all n l past)
 
 pub left-over : (input next : List ℕ) (m m′ : Memories) (end stop at held : ℕ) (goes : Bool) → stop ≡ min end (length input) → at ≤ stop → held ≡ stop - at
-    → Reached (take stop input) m at m′ → take held next ≡ take held (drop at input) → (goes ≡ true → waits (foundAt (take stop input) at) ≡ true)
+    → Reached (take stop input) m at m′ → take held next ≡ take held (drop at input) → (at ≡ 0 → NoneAt (take stop input) 0) → (goes ≡ true → waits (foundAt (take stop input) at) ≡ true)
     → LeftOver (take end input) m next m′ held goes
-left-over input next m m′ end stop at held goes least inside is there moved more =
+left-over input next m m′ end stop at held goes least inside is there moved none more =
     let size : length (take end input) ≡ stop = length-take end input ∙ sym least in
     let same : take stop input ≡ take end input = ap (λ (k : ℕ). take k input) least ∙ take-least end input in
     let back : length (take end input) - held ≡ at = omega arith in
@@ -66,6 +66,7 @@ left-over input next m m′ end stop at held goes least inside is there moved mo
       place =
           subst⁻¹ (λ (k : ℕ). Reached (take end input) m k m′) back
           (subst (λ (l : List ℕ). Reached l m at m′) same there);
+      some = λ all. subst (λ (l : List ℕ). NoneAt l 0) same (none (omega (arith, all)));
       moved =
           moved
           ∙ drop-of-take at held input

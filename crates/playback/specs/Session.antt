@@ -8,7 +8,7 @@ use Rattle.fields.specs.declared.Found.the-variants.{Whole}
 use Rattle.fields.specs.Fields.{foundAt}
 use Rattle.texts.specs.Texts.{hasRoom}
 use Rattle.playing.specs.ByTag.{PlayedField}
-use Rattle.steps.specs.Next.{waits}
+use Rattle.steps.specs.Next.{waits, NoneAt}
 
 -- the two memories, the status words, and how many of these stand
 pub record Memories : Type 0 where
@@ -30,9 +30,11 @@ pub data Reached : List ℕ → Memories → ℕ → Memories → Type 0 where
       → PlayedField tag (m′ .stand) (take n (drop (at + 3) buffer)) (m′ .access) (m′ .records) (m′ .words) line access records words line′ k stand
       → Reached buffer m (at + 3 + n) (memories access records words stand)
 
--- what the bytes of a buffer leave: the last of them, at the start of the next; the session goes on only where more may come there
+-- what the bytes of a buffer leave: the last of them, at the start of the next, and all of them only where they begin with no whole field;
+-- the session goes on only where more may come there
 pub record LeftOver (buffer : List ℕ) (m : Memories) (buffer′ : List ℕ) (m′ : Memories) (held : ℕ) (goes : Bool) : Type 0 where
   pub within : held ≤ length buffer
   pub place : Reached buffer m (length buffer - held) m′
+  pub some : held ≡ length buffer → NoneAt buffer 0
   pub moved : take held buffer′ ≡ drop (length buffer - held) buffer
   pub more : goes ≡ true → waits (foundAt buffer (length buffer - held)) ≡ true

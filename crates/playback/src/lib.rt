@@ -10,7 +10,7 @@ ghost use lib.ListN.{length, take};
 ghost use mathlib.Core.Path.{_≡_};
 ghost use mathlib.Core.Bool.{true};
 ghost use Rattle.fields.specs.Fields.{foundAt};
-ghost use Rattle.steps.specs.Next.{waits};
+ghost use Rattle.steps.specs.Next.{waits, NoneAt};
 ghost use Rattle.playback.specs.Session.{LeftOver, memories, Reached};
 
 // Plays every whole field of `input`. Lines are gathered in `output` and written when it is full and
@@ -27,6 +27,7 @@ fn play(
     requires { ⌜ 96 ≤ length (now output) ⌝ }
     ensures { λ r. ⌜ r .at ≤ length (now (input .entry)) ⌝ }
     ensures { λ r. ⌜ Reached (now (input .entry)) (memories (now (access .entry)) (now (records .entry)) (now (words .entry)) count) (r .at) (memories (now (access .exit)) (now (records .exit)) (now (words .exit)) (r .words)) ⌝ }
+    ensures { λ r. ⌜ (r .at ≡ 0 → NoneAt (now (input .entry)) 0) ⌝ }
     ensures { λ r. ⌜ (r .goes ≡ true → waits (foundAt (now (input .entry)) (r .at)) ≡ true) ⌝ }
 {
     let mut at = 0;

@@ -1,6 +1,6 @@
-// Release: the controller gives a processor back. The function tests the rows of document 01's outcome table
-// from N4 on, in its order; the rows above are passed when it is called. OK changes the record in the
-// lent memory, and a refusal leaves it.
+// Release: the controller gives a processor back. The function tests the rows of document 01's
+// outcome table from N4 on, in its order; the rows above are passed when it is called. OK changes
+// the record in the lent memory, and a refusal leaves it.
 ghost use mathlib.Core.List.{[]};
 ghost use Rattle.rules.specs.declared.Kind.the-variants.{Release};
 ghost use Rattle.operations.specs.Operation.{asked, CarriesByController};

@@ -8,7 +8,7 @@ use Rattle.fields.specs.declared.Found.{Found}
 use Rattle.fields.specs.declared.Found.the-variants.{Whole, Bad, Partial, Nothing}
 use Rattle.fields.specs.Fields.{foundAt}
 use Rattle.session.specs.declared.Progress.{Progress}
-use Rattle.output.specs.Room.{placeIn}
+use Rattle.output.specs.Room.{roomLeft, placeIn}
 use Rattle.steps.specs.declared.Next.{Next}
 use Rattle.steps.specs.declared.Next.the-variants.{Field, Over}
 
@@ -19,6 +19,10 @@ waits Bad = false
 waits Partial = true
 waits Nothing = true
 
+-- no whole field stands at a place
+abbrev pub NoneAt : List ℕ → ℕ → Type 0
+NoneAt buffer at = (tag n : ℕ) → foundAt buffer at ≡ Whole tag n → ⊥
+
 -- a whole field stands at place `at`, and its body, three bytes on, ends at `end`; its line goes where the next line goes
 pub record FieldComes (input : List ℕ) (at : ℕ) (out : List ℕ) (used tag end place : ℕ) : Type 0 where
   pub whole : foundAt input at ≡ Whole tag (end - (at + 3))
@@ -27,12 +31,14 @@ pub record FieldComes (input : List ℕ) (at : ℕ) (out : List ℕ) (used tag e
   pub line : place ≡ placeIn out used
   pub fits : 96 ≤ length out → place + 96 ≤ length out
 
--- the playing ends at place `at`; the session goes on only where more may come there
-pub record EndComes (input : List ℕ) (at words : ℕ) (p : Progress) : Type 0 where
+-- the playing ends at place `at`: with room left for a line only where no whole field stands there, since else nothing was written that
+-- could fail. The session goes on only where more may come
+pub record EndComes (input : List ℕ) (at words : ℕ) (out : List ℕ) (used : ℕ) (p : Progress) : Type 0 where
   pub place : p .at ≡ at
   pub stand : p .words ≡ words
+  pub none : roomLeft out used ≡ true → NoneAt input at
   pub more : p .goes ≡ true → waits (foundAt input at) ≡ true
 
 abbrev pub Comes : List ℕ → ℕ → ℕ → List ℕ → ℕ → Next → Type 0
 Comes input at words out used (Field tag end place) = FieldComes input at out used tag end place
-Comes input at words out used (Over p) = EndComes input at words p
+Comes input at words out used (Over p) = EndComes input at words out used p

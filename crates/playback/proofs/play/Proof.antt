@@ -1,17 +1,19 @@
 -- `playback::play` meets its contract and ends: a whole field ends within the input, and each turn passes one. Assumes nothing.
 use Prim.Native.Nat.{ℕ, _+_, _-_, _≤_}
-use mathlib.Core.Path.{_≡_, sym, ap, subst, subst⁻¹, _∙_}
+use mathlib.Core.Path.{_≡_, refl, sym, ap, subst, subst⁻¹, _∙_}
 use mathlib.Core.Bool.{Bool, true}
 use mathlib.Core.List.{List}
 use native.Mathlib.Omega.{arith}
 use lib.ListN.{length}
 use denote.Ref.{now}
+use borrow.Author.Tests.{le-leb}
 use borrow.Rule.Slice.PartMut.{same-len-mid}
 use Rattle.session.specs.declared.Progress.{Progress}
 use Rattle.fields.specs.Fields.{foundAt}
 use Rattle.steps.specs.declared.Next.{Next}
 use Rattle.steps.specs.declared.Next.the-variants.{Field, Over}
-use Rattle.steps.specs.Next.{waits, FieldComes, EndComes, Comes}
+use Rattle.output.specs.Room.{roomLeft}
+use Rattle.steps.specs.Next.{waits, NoneAt, FieldComes, EndComes, Comes}
 use Rattle.playback.specs.Session.{memories, Reached, start}
 use Rattle.playback.proofs.Session.{reached-same, reached-next, rest-long}
 use borrow.Author.Needs.{needs}
@@ -24,19 +26,26 @@ comes-field : (input : List ℕ) (at words : ℕ) (out : List ℕ) (used : ℕ) 
 comes-field input at words out used tag end place next is told = subst (Comes input at words out used) is told
 
 comes-end : (input : List ℕ) (at words : ℕ) (out : List ℕ) (used : ℕ) (p : Progress) (next : Next) → next ≡ Over p
-    → Comes input at words out used next → EndComes input at words p
+    → Comes input at words out used next → EndComes input at words out used p
 comes-end input at words out used p next is told = subst (Comes input at words out used) is told
+
+-- before the first field nothing is gathered, so there is room
+nothing-left : (input out : List ℕ) (at used : ℕ) → 96 ≤ length out → (at ≡ 0 → used ≡ 0) → at ≡ 0
+    → (roomLeft out used ≡ true → NoneAt input at) → NoneAt input 0
+nothing-left input out at used long first here none =
+    let empty = first here in
+    subst (NoneAt input) here (none (le-leb 96 (length out - used) (omega (arith, empty))))
 
 abbrev Inv-loop : tie.InvT-loop
 Inv-loop access₀ records₀ words₀ count input output₀ at₀ used₀ stand₀ access records words output at used stand =
-    (at ≤ length input) × (length output ≡ length output₀) × (96 ≤ length output) × Reached input (memories access₀ records₀ words₀ count) at (memories access records words stand)
+    (at ≤ length input) × (length output ≡ length output₀) × (96 ≤ length output) × (at ≡ 0 → used ≡ 0) × Reached input (memories access₀ records₀ words₀ count) at (memories access records words stand)
 
 abbrev μ-loop : tie.MeasureT-loop
 μ-loop access₀ records₀ words₀ count input output₀ at₀ used₀ stand₀ access records words output at used stand =
     length input - at
 
 loop-holds : tie.Need-loop-holds Inv-loop μ-loop
-loop-holds c = (search needs, search needs, search needs, start)
+loop-holds c = (search needs, search needs, search needs, λ _. refl, start)
 
 next-field-requires : tie.Need-next-field-requires Inv-loop μ-loop
 next-field-requires c κs = search needs
@@ -52,7 +61,7 @@ returns c =
     let l = c .before .before .before .before .before .loop in
     let input = now (c .before .before .before .before .before .before .before .before .args .input) in
     let told = comes-end _ _ _ _ _ _ _ (c .before .next .given .1) (c .before .before .before .next-field .ensures) in
-    (omega (arith, told .place), (reached-same _ _ _ _ _ _ _ (l .inv .3) _ _ (told .place) (told .stand), λ on. ap (λ (k : ℕ). waits (foundAt input k)) (told .place) ∙ told .more on))
+    (omega (arith, told .place), (reached-same _ _ _ _ _ _ _ (l .inv .4) _ _ (told .place) (told .stand), (λ none. nothing-left input (l .output) (l .at) (l .used) (l .inv .2) (l .inv .3) (sym (told .place) ∙ none) (told .none), λ on. ap (λ (k : ℕ). waits (foundAt input k)) (told .place) ∙ told .more on)))
 
 enum-known-next-2 : tie.Need-enum-known-next-2 Inv-loop μ-loop
 enum-known-next-2 c = search needs
@@ -119,7 +128,7 @@ loop-again c =
     let place = c .before .before .before .before .before .before .before .before .before .before .next2 .given .0 .1 .1 .0 in
     let room = comes .fits (l .inv .2) in
     let size = same-len-mid {X = ℕ} place (length (l .output) - place) (l .output) (played .last .1 .1 .1 .1 .1 .1 .0) (played .kept .1 .1 .1 .1 .1 .1 .0) in
-    (comes .within, size ∙ l .inv .1, subst⁻¹ (λ (n : ℕ). 96 ≤ n) size (l .inv .2), reached-next _ _ _ _ _ _ _ (l .inv .3) _ _ _ _ _ _ _ _ _ (comes .whole) (comes .behind) (rest-long (l .output) place room) (played .ensures .1))
+    (comes .within, size ∙ l .inv .1, subst⁻¹ (λ (n : ℕ). 96 ≤ n) size (l .inv .2), λ none. absurd (omega (arith, none, comes .behind)), reached-next _ _ _ _ _ _ _ (l .inv .4) _ _ _ _ _ _ _ _ _ (comes .whole) (comes .behind) (rest-long (l .output) place room) (played .ensures .1))
 
 pub play-spec : {M : Type 1} → statement M
 play-spec =

@@ -42,7 +42,7 @@ returns c =
     let inside : played .result .at ≤ stop .result = le-trans (played .ensures .0) (length-part _ _) in
     let whole : stop .result ≤ length (now (a .input)) = omega (arith, size, stop .ensures) in
     let held = moved .0 ∙ cond-true _ _ (le-leb (stop .result) (length (now (a .input))) whole) in
-    (left-over (now (a .input)) _ _ _ (a .end) (stop .result) (played .result .at) _ _ (stop .ensures ∙ ap (min (a .end)) (sym size)) inside held (played .ensures .1 .0) (moved .1) (played .ensures .1 .1), omega (arith, held, stop .ensures))
+    (left-over (now (a .input)) _ _ _ (a .end) (stop .result) (played .result .at) _ _ (stop .ensures ∙ ap (min (a .end)) (sym size)) inside held (played .ensures .1 .0) (moved .1) (played .ensures .1 .1 .0) (played .ensures .1 .1 .1), omega (arith, held, stop .ensures))
 
 pub play-held-spec : {M : Type 1} → statement M
 play-held-spec =

@@ -1,6 +1,6 @@
 -- `steps::next_field` meets its contract: a whole field ends within the input, and without one the playing ends. Assumes nothing.
 use Prim.Native.Nat.{ℕ, _+_, _≤_}
-use mathlib.Core.Path.{_≡_, refl, sym, ap, _∙_}
+use mathlib.Core.Path.{_≡_, refl, sym, ap, subst, _∙_}
 use mathlib.Core.Bool.{Bool, true, false}
 use mathlib.Core.List.{List, [], _∷_}
 use native.Mathlib.Nat.{add-sub-cancel-left}
@@ -31,6 +31,10 @@ more-to-come Bad goes key bad on = clash on (bad refl)
 more-to-come Partial goes key bad on = refl
 more-to-come Nothing goes key bad on = refl
 
+-- what is found has none of the other keys where it is whole
+not-whole : (found : Found) → OneOf (1 ∷ 2 ∷ 3 ∷ []) (tagOf the-type found) → (tag n : ℕ) → found ≡ Whole tag n → ⊥
+not-whole found key tag n is = miss (1 ∷ 2 ∷ 3 ∷ []) 0 tt (subst (λ (f : Found). OneOf (1 ∷ 2 ∷ 3 ∷ []) (tagOf the-type f)) is key)
+
 -- a whole field ends within the input
 field-comes : (input out : List ℕ) (at used tag n place : ℕ) → Whole tag n ≡ foundAt input at → place ≡ placeIn out used
     → (96 ≤ length out → place + 96 ≤ length out) → FieldComes input at out used tag (at + 3 + n) place
@@ -59,6 +63,7 @@ returns c =
     record {
       place = told .0;
       stand = told .1;
+      none = λ _ tag n is. not-whole found (c .before .match .keys2) tag n (c .before .before .find .ensures ∙ is);
       more = λ on. sym (ap waits (c .before .before .find .ensures)) ∙ more-to-come found _ (c .before .match .keys2) (told .2) on;
     }
 
@@ -71,7 +76,13 @@ ended-requires c κs = search needs
 returns-2 : tie.Need-returns-2
 returns-2 c =
     let told = c .ended .ensures in
-    record { place = told .0; stand = told .1; more = λ on. clash on (told .2 ∙ not-true _ (c .before .if1 .taken)) }
+    let failed = not-true _ (c .before .if1 .taken) in
+    record {
+      place = told .0;
+      stand = told .1;
+      none = λ room _ _ _. clash (c .before .before .before .make-room .ensures .1 .1 room) failed;
+      more = λ on. clash on (told .2 ∙ failed);
+    }
 
 add-start : tie.Need-add-start
 add-start c =
