@@ -55,6 +55,7 @@ pub fn cases() -> Vec<Case> {
     let mut cases = groups.concat();
     cases.extend(length_cases());
     cases.extend(open_cases());
+    cases.extend(processor_cases());
     cases.push(worked_session());
     cases
 }
@@ -255,6 +256,56 @@ fn open_cases() -> Vec<Case> {
             ],
         ),
     ]
+}
+
+/// Every processor byte: which are on the board, in messages and in lists, and that each of those has
+/// a record of its own.
+fn processor_cases() -> Vec<Case> {
+    let with = |message: &str, byte: u8| [bytes_of(message), vec![byte]].concat();
+    let requests = (0..=255).map(|byte| {
+        let line = if on_board(byte) { REQUEST_OK } else { "N6 0 0 00c0030700000000" };
+        sends_bytes(with("00 C0 03 07 02 00 00 00", byte), ANSWER_BYTES, line)
+    });
+    let configs = [
+        "00 C1 03 17 00 00 00 00 01 80 00 00 00 01 00 00 00 01 00 00 00 00 00 00 00",
+        "00 C1 03 17 00 00 00 00 02 00 01 00 00 02 00 00 00 02 00 00 00 00 00 00 00",
+        "00 C1 03 17 00 00 00 00 20 03 00 00 00 03 00 00 00 04 00 00 00 00 00 00 00",
+        "00 C1 03 17 00 00 00 00 21 04 00 00 00 04 00 00 00 08 00 00 00 00 00 00 00",
+    ];
+    let reads = (0..=255).map(|byte| {
+        let line = match byte {
+            1 => "OK 0 0 00c4031802000000018000000001000000010000000000000013000000",
+            2 => "OK 0 0 00c4031802000000020001000002000000020000000000000013000000",
+            32 => "OK 0 0 00c4031802000000200300000003000000040000000000000013000000",
+            33 => "OK 0 0 00c4031802000000210400000004000000080000000000000013000000",
+            _ => "N6 0 0 00c4031800000000",
+        };
+        sends_bytes(with("00 C4 03 18 02 00 00 00", byte), ANSWER_BYTES, line)
+    });
+    let mut steps: Vec<_> = requests.collect();
+    steps.extend(configs.map(|message| sends(message, "OK 0 0 -")));
+    steps.push(Step::Status { words: vec![0x13] });
+    steps.extend(reads);
+    vec![case("every processor byte in messages", &steps), listed_processors()]
+}
+
+/// Lists whose first entry names each processor byte that is not on the board, and then one that is.
+fn listed_processors() -> Case {
+    let naming = |byte: u8| {
+        let mut list = bench_list();
+        list[4..].fill(0);
+        list[4..7].copy_from_slice(&[byte, 3, 0]);
+        list
+    };
+    let refused = (1..=255).filter(|&byte| !on_board(byte));
+    let mut steps: Vec<_> = refused.map(|byte| list_step(naming(byte), "list A5")).collect();
+    steps.push(list_step(naming(33), "list OK"));
+    steps.push(list_step(naming(3), "list A1"));
+    Case { name: "every processor byte in lists", steps }
+}
+
+fn on_board(byte: u8) -> bool {
+    [1, 2, 32, 33].contains(&byte)
 }
 
 fn worked_session() -> Case {

@@ -4,6 +4,10 @@
 ghost use mathlib.Core.Path.{_≡_};
 ghost use Rattle.rules.specs.Board.{ours, boardHost, activeHost, rowOf, classAt, maskOf};
 
+mod row_table;
+
+use row_table::ROW_TABLE;
+
 // How many rows the board has: one for each processor.
 pub const ROWS: u8 = 4;
 
@@ -41,13 +45,7 @@ pub fn is_active(host: u16) -> bool
 pub fn row_of(processor: u8) -> u8
     ensures { λ r. ⌜ r ≡ rowOf ours processor ⌝ }
 {
-    match processor {
-        1 => 0,
-        2 => 1,
-        32 => 2,
-        33 => 3,
-        _ => ROWS,
-    }
+    ROW_TABLE[processor as usize]
 }
 
 // The class of the processor at `row`: 0 for R5, 1 for ARMv8.

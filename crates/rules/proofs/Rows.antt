@@ -1,16 +1,18 @@
--- Rows: two processors of which one is on the board share a row only if they are one. For any board. Assumes nothing.
+-- Rows: two processors of which one is on the board share a row only if they are one; a table that passes its test gives every
+-- row. For any board and any table. Assumes nothing.
 use Prim.Native.Nat.{ℕ, suc, pred, _<_, _≤_}
 use mathlib.Core.Path.{_≡_, sym, _∙_, subst, ap}
-use mathlib.Core.Bool.{true, false}
+use mathlib.Core.Bool.{Bool, true, false}
 use mathlib.Core.List.{List, [], _∷_}
 use mathlib.Core.Logic.{⊎-elim}
-use native.Mathlib.Nat.{not-suc-le-zero, le-of-suc-le-suc}
+use native.Mathlib.Nat.{not-suc-le-zero, le-of-suc-le-suc, zero-add}
 use native.Mathlib.Omega.{arith}
-use lib.ListN.{length}
+use lib.ListN.{length, getD}
 use lib.Dec.{eqb}
 use borrow.Author.Tests.{eqb-true, ltb-true}
-use Rattle.rules.specs.Board.{Board, Processor, placeIn, rows, rowOf, onBoard}
-use Rattle.rules.proofs.Tests.{decide, cond-true, cond-false}
+use Rattle.rules.specs.Table.{allFrom}
+use Rattle.rules.specs.Board.{Board, Processor, placeIn, rows, rowOf, givesRows, onBoard}
+use Rattle.rules.proofs.Tests.{decide, cond-true, cond-false, and-left, and-right, allFrom-at}
 
 -- the place of a processor at the head of the list, and of one that is not there
 at-head : (x : Processor) (xs : List Processor) (p : ℕ) → eqb p (x .number) ≡ true → placeIn (x ∷ xs) p ≡ 0
@@ -54,3 +56,24 @@ place-within (x ∷ xs) p =
 pub row-within : (b : Board) (p : ℕ) → rowOf b p ≤ rows b
 unfolding rowOf rows
 row-within b p = place-within (b .processors) p
+
+-- ---- the table of rows (document 02, L2)
+
+-- a table that passes the test gives, at each of the 256 processor bytes, its row or the mark for none
+pub table-rule : (b : Board) (table : List ℕ) → givesRows b table ≡ true → (p : ℕ) → p < 256 → getD table p 0 ≡ rowOf b p
+unfolding givesRows
+table-rule b table t p h =
+    eqb-true (getD table p 0) (rowOf b p)
+    (subst (λ (n : ℕ). right n (getD table p 0) ≡ true) (zero-add p) (allFrom-at right table 0 p 0 (and-right whole every t) within))
+  where
+    right : ℕ → ℕ → Bool
+    right q row = eqb row (rowOf b q)
+
+    whole : Bool
+    whole = eqb (length table) 256
+
+    every : Bool
+    every = allFrom right 0 table
+
+    within : p < length table
+    within = subst (λ (n : ℕ). p < n) (sym (eqb-true (length table) 256 (and-left whole every t))) h

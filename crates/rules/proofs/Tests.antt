@@ -1,5 +1,6 @@
 -- Laws of tests, of tables and of searches, for any type. Assumes nothing.
-use Prim.Native.Nat.{ℕ, zero, suc, pred}
+use Prim.Native.Nat.{ℕ, zero, suc, pred, _+_, _<_}
+use native.Mathlib.Nat.{add-zero, add-suc, suc-add, le-of-suc-le-suc, not-suc-le-zero}
 use native.Mathlib.Omega.{arith}
 use mathlib.Core.Path.{_≡_, refl, sym, subst, _∙_, ap}
 use mathlib.Core.Bool.{Bool, true, false, cond, _&&_, _||_, true≢false}
@@ -8,7 +9,7 @@ use mathlib.Core.Logic.{_⊎_, inl, inr, ⊎-elim}
 use lib.ListN.{length, getD, set}
 use lib.Dec.{eqb}
 use borrow.Author.Tests.{eqb-true, eq-eqb}
-use Rattle.rules.specs.Table.{Line, _gives_, firstOf, anyOf, allOf}
+use Rattle.rules.specs.Table.{Line, _gives_, firstOf, anyOf, allOf, allFrom}
 
 pub decide : (x : Bool) → (x ≡ true) ⊎ (x ≡ false)
 decide true = inl refl
@@ -103,6 +104,17 @@ allOf-member test (x ∷ xs) p t m =
     ⊎-elim (λ e. subst (λ (y : ℕ). test y ≡ true) (sym (eqb-true p x e)) (and-left (test x) (allOf test xs) t))
     (λ m. allOf-member test xs p (and-right (test x) (allOf test xs) t) m)
     (or-cases (eqb p x) (anyOf (eqb p) xs) m)
+
+-- where every element passes at its place, the one at k does
+pub allFrom-at : {A : Type 0} (test : ℕ → A → Bool) (xs : List A) (i k : ℕ) (d : A)
+    → allFrom test i xs ≡ true → k < length xs → test (i + k) (getD xs k d) ≡ true
+unfolding allFrom
+allFrom-at test [] i k d t h = absurd (not-suc-le-zero h)
+allFrom-at test (x ∷ xs) i zero d t h =
+    subst (λ (n : ℕ). test n x ≡ true) (sym (add-zero i)) (and-left (test i x) (allFrom test (suc i) xs) t)
+allFrom-at test (x ∷ xs) i (suc k) d t h =
+    subst (λ (n : ℕ). test n (getD xs k d) ≡ true) (suc-add i k ∙ sym (add-suc i k))
+    (allFrom-at test xs (suc i) k d (and-right (test i x) (allFrom test (suc i) xs) t) (le-of-suc-le-suc h))
 
 -- ---- stores
 

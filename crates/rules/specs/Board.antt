@@ -5,7 +5,7 @@ use mathlib.Core.Bool.{Bool, true, false, cond, not, _&&_, _||_}
 use mathlib.Core.List.{List, [], _∷_, map}
 use lib.ListN.{length, getD}
 use lib.Dec.{eqb, ltb}
-use Rattle.rules.specs.Table.{anyOf}
+use Rattle.rules.specs.Table.{anyOf, allFrom}
 
 pub record Host : Type 0 where
   pub number : ℕ
@@ -65,9 +65,13 @@ placeIn (x ∷ xs) p = cond (eqb p (x .number)) 0 (suc (placeIn xs p))
 unfoldable pub rows : Board → ℕ
 rows b = length (b .processors)
 
--- the row of processor p
+-- the row of processor p, or the number of rows, which is the mark for none
 unfoldable pub rowOf : Board → ℕ → ℕ
 rowOf b p = placeIn (b .processors) p
+
+-- document 02, L2: "a table of 256 numbers that gives the row of each processor byte, or a mark for none"; a test over the whole table
+unfoldable pub givesRows : Board → List ℕ → Bool
+givesRows b table = eqb (length table) 256 && allFrom (λ (p row : ℕ). eqb row (rowOf b p)) 0 table
 
 -- p is on the board
 unfoldable pub onBoard : Board → ℕ → Bool

@@ -1,5 +1,6 @@
 -- A table of a paper, read from top to bottom: the first line whose test holds decides. Document 01's outcomes and its reasons to
 -- refuse a list are such tables. Assumes nothing.
+use Prim.Native.Nat.{ℕ, suc}
 use mathlib.Core.Bool.{Bool, true, false, cond, _&&_, _||_}
 use mathlib.Core.List.{List, [], _∷_}
 
@@ -22,3 +23,8 @@ anyOf test (x ∷ xs) = test x || anyOf test xs
 unfoldable pub allOf : {A : Type 0} → (A → Bool) → List A → Bool
 allOf test [] = true
 allOf test (x ∷ xs) = test x && allOf test xs
+
+-- every element passes the test together with its place; the places are counted from i
+unfoldable pub allFrom : {A : Type 0} → (ℕ → A → Bool) → ℕ → List A → Bool
+allFrom test i [] = true
+allFrom test i (x ∷ xs) = test i x && allFrom test (suc i) xs

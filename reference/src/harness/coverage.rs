@@ -1,15 +1,19 @@
 //! Counts what a run has reached, and says what it has not.
 
+use std::collections::BTreeSet;
 use std::fmt::Write;
 
 use crate::access::{ListFault, LIST_FAULTS};
 use crate::harness::goals::{goals, Subject, POSSIBLE, SUBJECTS};
+use crate::message::HEADER_BYTES;
 use crate::outcome::{Outcome, OUTCOMES};
 
-/// How often each combination, verdict and ending was reached.
+/// How often each combination, verdict and ending was reached, and with which processors.
 #[derive(Default)]
 pub struct Coverage {
     messages: [[[u64; 2]; OUTCOMES.len()]; SUBJECTS],
+    /// the processor bytes that were looked up
+    processors: BTreeSet<u8>,
     lists: [u64; LIST_FAULTS.len() + 1],
     pub bad_records: u64,
     pub cut_records: u64,
@@ -20,6 +24,9 @@ impl Coverage {
     pub fn count_message(&mut self, message: &[u8], outcome: Outcome) {
         let (subject, asked) = Subject::of(message);
         self.messages[subject.index()][outcome as usize][usize::from(asked)] += 1;
+        if outcome >= Outcome::N6 {
+            self.processors.insert(message[HEADER_BYTES]);
+        }
     }
 
     /// Counts one list with its verdict.
@@ -55,6 +62,7 @@ impl Coverage {
                 }
             }
         }
+        gaps.extend(self.processor_gaps());
         gaps.extend(self.list_gaps());
         gaps
     }
@@ -64,6 +72,11 @@ impl Coverage {
         let endings = [("bad record", self.bad_records), ("cut record", self.cut_records)];
         let never = endings.iter().filter(|(_, count)| *count == 0);
         never.map(|(name, _)| format!("{name}: 0")).collect()
+    }
+
+    fn processor_gaps(&self) -> Vec<String> {
+        let never = (0..=255).filter(|byte| !self.processors.contains(byte));
+        never.map(|byte| format!("processor {byte}: 0")).collect()
     }
 
     fn list_gaps(&self) -> Vec<String> {
@@ -110,10 +123,11 @@ mod tests {
     fn gaps_name_the_missing_and_the_impossible() {
         let mut coverage = Coverage::default();
         let all = coverage.gaps(true).len();
-        assert_eq!(all, goals().len() + 9);
+        assert_eq!(all, goals().len() + 256 + 9);
         coverage.count_message(&[0, 0xC0, 3, 0, 2, 0, 0, 0, 1], Outcome::OK);
+        coverage.count_message(&[0, 0xC0, 3, 0, 2, 0, 0, 0], Outcome::N4);
         coverage.count_list(Err(ListFault::A8));
-        assert_eq!(coverage.gaps(true).len(), all - 2);
+        assert_eq!(coverage.gaps(true).len(), all - 4);
         coverage.count_message(&[0, 0xC0, 3, 0, 0, 0, 0, 0, 1], Outcome::N9);
         assert!(coverage.gaps(true).contains(&"Request N9 not asked: 1".to_string()));
     }

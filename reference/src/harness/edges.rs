@@ -1,7 +1,9 @@
-//! Recordings with a bad tag, a bad length or a cut at every position, and with the longest and
-//! shortest good fields.
+//! Recordings with a bad tag, a bad length or a cut at every position, with the longest and shortest
+//! good fields, and with every processor byte in messages of every type.
 
+use crate::harness::clients::client_list;
 use crate::harness::recordings::{field, header_of, message_field, status_field};
+use crate::message::{KINDS, LONGEST_MESSAGE};
 use crate::session::{TAG_LIST, TAG_MESSAGE, TAG_STATUS};
 
 /// Lengths on both sides of each limit.
@@ -15,7 +17,24 @@ pub fn edge_recordings() -> Vec<Vec<u8>> {
     for start in field_starts() {
         recordings.extend(spoiled(&whole, start));
     }
+    recordings.push(processor_recording());
     recordings
+}
+
+/// Every processor byte in a message of every type, from several hosts and with several operands.
+fn processor_recording() -> Vec<u8> {
+    let mut recording = field(TAG_LIST, &client_list());
+    recording.extend(status_field(&[u32::MAX; 255]));
+    let senders = [(3, 0), (10, 1), (12, 0), (10, 4)];
+    for processor in 0..=255 {
+        for (kind, (host, filler)) in KINDS.iter().flat_map(|kind| senders.map(|s| (kind, s))) {
+            let mut message = kind.number().to_le_bytes().to_vec();
+            message.extend([host, processor, 2, 0, 0, 0, processor]);
+            message.resize(LONGEST_MESSAGE, filler);
+            recording.extend(message_field(host, &message));
+        }
+    }
+    recording
 }
 
 /// A recording with one small field of each kind.
@@ -61,6 +80,15 @@ fn spoiled(whole: &[u8], start: usize) -> Vec<Vec<u8>> {
 mod tests {
     use super::*;
     use crate::session::replay;
+
+    #[test]
+    fn four_processor_bytes_are_on_the_board() {
+        let mut lines = Vec::new();
+        replay(processor_recording().as_slice(), &mut lines).unwrap();
+        let text = String::from_utf8(lines).unwrap();
+        let off_board = text.lines().filter(|line| line.starts_with("N6")).count();
+        assert_eq!(off_board, 252 * 7 * 4);
+    }
 
     #[test]
     fn edges_have_all_endings() {
