@@ -1,4 +1,5 @@
--- Document 01 as definitions, in its order. `Table` and `Bytes` are what the others are written with.
+-- Document 01 as definitions, in its order, with what landed requests of document 02 add to them. `Table` and `Bytes` are what the
+-- others are written with.
 pub mod Table
 pub mod Bytes
 pub mod Board
