@@ -1,8 +1,8 @@
-// Document 01's board: its hosts, its processors with their rows and classes, and the flag bits that
-// may be named. Each function gives what the definition of the same name in rules/specs/Board.antt
+// Document 01's board: its hosts, its processors with their rows, classes and homes, and the flag bits
+// that may be named. Each function gives what the definition of the same name in rules/specs/Board.antt
 // gives, for any number.
 ghost use mathlib.Core.Path.{_≡_};
-ghost use Rattle.rules.specs.Board.{ours, boardHost, activeHost, rowOf, classAt, maskOf};
+ghost use Rattle.rules.specs.Board.{ours, boardHost, activeHost, rowOf, classAt, homeAt, maskOf};
 
 mod row_table;
 
@@ -13,6 +13,9 @@ pub const ROWS: u8 = 4;
 
 // The class of each row's processor.
 const CLASSES: [usize; 4] = [0, 0, 1, 1];
+
+// The home of each row's control word: the application cores share the one of 32.
+const HOMES: [u8; 4] = [0, 1, 2, 2];
 
 // The flag bits that may be named, indexed first by class and then by word.
 const MASKS: [[u32; 2]; 2] = [[0xFF03, 0x3], [0x10F, 0x103]];
@@ -56,6 +59,17 @@ pub fn class_at(row: u8) -> usize
         return CLASSES[row as usize];
     }
     0
+}
+
+// The row where the control word of the processor at `row` is kept. The processors of a cluster have
+// one home.
+pub fn home_at(row: u8) -> u8
+    ensures { λ r. ⌜ r ≡ homeAt ours row ⌝ }
+{
+    if row < ROWS {
+        return HOMES[row as usize];
+    }
+    row
 }
 
 // The flag bits that may be named in `word`, 0 for config and 1 for control, by a processor's class.

@@ -4,10 +4,9 @@ use mathlib.Core.Path.{_≡_, sym, ap, _∙_}
 use mathlib.Core.Bool.{Bool, true}
 use mathlib.Core.List.{List, _∷_}
 use mathlib.Core.Logic.{⊎-elim}
-use Rattle.rules.specs.declared.Record.{Record}
 use Rattle.rules.specs.Board.{ours}
 use Rattle.rules.specs.AccessList.{Entry, entriesOf, verdictOf, accepted}
-use Rattle.rules.specs.State.{listed, State}
+use Rattle.rules.specs.State.{listed, Records, State}
 use Rattle.rules.specs.Call.{list, verdictTo, taken, afterOffer}
 use Rattle.rules.proofs.Tests.{decide, cond-true, cond-false}
 use Rattle.access.specs.Memory.{listedIn, entriesIn, someList, setupIn, keptSetup}
@@ -16,7 +15,7 @@ use Rattle.loading.specs.Loaded.{wordsOf, accessAfter}
 use Rattle.loading.proofs.Words.{words-read}
 
 -- the set-up after a list call, of a state with this memory
-module _ (m bytes : List ℕ) (records : List Record) where
+module _ (m bytes : List ℕ) (records : Records) where
   before : State
   before = record { setup = setupIn m; records = records }
 

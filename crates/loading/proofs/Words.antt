@@ -13,7 +13,8 @@ use lib.Seq.{sets, set-out}
 use borrow.Author.Tests.{ltb-true, ltb-false, eqb-true, not-false}
 use Rattle.rules.specs.declared.Verdict.{Verdict}
 use Rattle.rules.specs.declared.Verdict.the-variants.{Accepted}
-use Rattle.rules.specs.Board.{ours, placeIn, rows, rowOf, onBoard}
+use Rattle.rules.specs.Table.{placeOf}
+use Rattle.rules.specs.Board.{ours, rows, rowOf, onBoard}
 use Rattle.rules.specs.AccessList.{Entry, noEntry, partAt, partsFrom, processorIn, masterIn, secondariesIn, used, entryIn, withPart, withParts, noEntries, entriesOf, verdictOf, accepted}
 use Rattle.rules.proofs.Tests.{decide, clash, cond-true, cond-false}
 use Rattle.lists.proofs.Verdicts.{not-accepted}
@@ -58,7 +59,7 @@ rows-part {n} {es} part r =
 
 -- processor 0 is not on the board
 zero-off : (p : ℕ) → p ≡ 0 → onBoard ours p ≡ false
-unfolding onBoard rows rowOf placeIn ours
+unfolding onBoard rows rowOf placeOf ours
 zero-off p unused = rw unused
 
 -- a processor on the board has one of the four rows

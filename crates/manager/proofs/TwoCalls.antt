@@ -1,12 +1,12 @@
 -- The two calls over plain lists: what their steps leave is what the rules give. Assumes nothing.
 use Prim.Native.Nat.{ℕ, _+_, _*_, _≤_, _<_}
-use mathlib.Core.Path.{_≡_, refl, sym, ap, _∙_}
+use mathlib.Core.Path.{_≡_, refl, sym, subst⁻¹, ap, ap₂, _∙_}
 use mathlib.Core.Bool.{true, false}
 use mathlib.Core.List.{List}
 use mathlib.Core.Logic.{⊎-elim}
 use native.Mathlib.Nat.{le-trans}
 use native.Mathlib.Omega.{arith}
-use lib.ListN.{length, set}
+use lib.ListN.{length}
 use lib.Seq.{set-out}
 use lib.Dec.{ltb, lit<}
 use borrow.Author.Tests.{le-leb, ltb-true, ltb-false}
@@ -15,15 +15,16 @@ use Rattle.rules.specs.declared.Outcome.the-variants.{R1}
 use Rattle.rules.specs.declared.Record.{Record}
 use Rattle.rules.specs.declared.Report.{Report}
 use Rattle.rules.specs.Table.{firstOf}
-use Rattle.rules.specs.Board.{ours, rows, rowOf, onBoard}
+use Rattle.rules.specs.Board.{ours, rows, rowOf, onBoard, homeAt}
 use Rattle.rules.specs.AccessList.{accepted}
 use Rattle.rules.specs.Message.{Query, query, kindIn, subjectOf}
 use Rattle.rules.specs.Outcome.{View, admission, outcomeTable, outcomeOf, carriedOut}
 use Rattle.rules.specs.Effect.{effectOf, recordAfter}
 use Rattle.rules.specs.Answer.{ackBytes, bytesFor, answerBytes, answerOf, reportOf, bufferAfter}
-use Rattle.rules.specs.State.{State, viewOf, stored}
+use Rattle.rules.specs.State.{Own, State, ownOf, viewOf, putIn, stored}
 use Rattle.rules.specs.Call.{list, verdictTo, taken, afterOffer, afterMessage, answerTo, offer, next}
 use Rattle.rules.proofs.Tests.{decide, cond-true, cond-false}
+use Rattle.rules.proofs.Rows.{home-past}
 use Rattle.rules.proofs.Rights.{allowed}
 use Rattle.access.specs.Memory.{byRow, setupIn}
 use Rattle.loading.specs.Loaded.{accessAfter}
@@ -60,19 +61,20 @@ all-fits v q =
 
 -- ---- the message call
 
-four-rows : (m : List ℕ) (row : ℕ) → 4 ≤ row → length (recordsIn m) ≤ row
-unfolding recordsIn byRow rows ours
-four-rows m row h = h
+-- a row that is not there is not put to
+put-out : (m : List ℕ) (row : ℕ) (r : Record) → 4 ≤ row → putIn ours (recordsIn m) row r ≡ recordsIn m
+unfolding putIn recordsIn byRow rows ours
+put-out m row r h =
+    ap₂ (λ (os : List Own) (words : List ℕ). record { own = os; controls = words })
+    (set-out (recordsIn m .own) row (ownOf r) h)
+    (set-out (recordsIn m .controls) (homeAt ours row) (r .control) (subst⁻¹ (λ (n : ℕ). 4 ≤ n) (home-past ours row h) h))
 
 -- the records after a store are those of the next state, also where the processor named is not on the board
-records-next : (m : List ℕ) (row : ℕ) (r : Record) → length m ≡ 20 → recordsIn (withRecord m row r) ≡ set (recordsIn m) row r
+records-next : (m : List ℕ) (row : ℕ) (r : Record) → length m ≡ 20 → recordsIn (withRecord m row r) ≡ putIn ours (recordsIn m) row r
 records-next m row r size =
     ⊎-elim (λ t. records-store m row r size (ltb-true row 4 t))
-    (λ f. ap recordsIn (records-kept m row r size (ltb-false row 4 f)) ∙ sym (past (ltb-false row 4 f)))
+    (λ f. ap recordsIn (records-kept m row r size (ltb-false row 4 f)) ∙ sym (put-out m row r (ltb-false row 4 f)))
     (decide (ltb row 4))
-  where
-    past : 4 ≤ row → set (recordsIn m) row r ≡ recordsIn m
-    past h = set-out (recordsIn m) row r (four-rows m row h)
 
 -- a processor on the board has its five words in the memory
 row-fits : (m : List ℕ) (p : ℕ) → length m ≡ 20 → onBoard ours p ≡ true → 5 * rowOf ours p + 4 < length m
@@ -91,16 +93,16 @@ module _ (a m : List ℕ) (channel : ℕ) (bytes words held : List ℕ) (la : le
   sees = view-in a m (subjectOf q) la lm
 
   -- the memory after the call: the records of the next state
-  next-records : recordsIn (memoryAfter (kindIn bytes) (outcomeOf v q) m q) ≡ set (recordsIn m) (rowIn q) (recordAfter v q)
+  next-records : recordsIn (memoryAfter (kindIn bytes) (outcomeOf v q) m q) ≡ putIn ours (recordsIn m) (rowIn q) (recordAfter v q)
   unfolding memoryAfter recordAfter viewIn
   next-records =
       ⊎-elim
       (λ ok.
       ap recordsIn (cond-true _ _ ok) ∙ records-next m (rowIn q) (effectOf (kindIn bytes) q (recordAt m (rowIn q))) lm
-      ∙ ap (set (recordsIn m) (rowIn q)) (sym (cond-true _ _ ok)))
+      ∙ ap (putIn ours (recordsIn m) (rowIn q)) (sym (cond-true _ _ ok)))
       (λ no.
       ap recordsIn (cond-false _ _ no ∙ sym (store-same m (rowIn q))) ∙ records-next m (rowIn q) (recordAt m (rowIn q)) lm
-      ∙ ap (set (recordsIn m) (rowIn q)) (sym (cond-false _ _ no)))
+      ∙ ap (putIn ours (recordsIn m) (rowIn q)) (sym (cond-false _ _ no)))
       (decide (carriedOut (outcomeOf v q)))
 
   -- the answer's record is read after the call, and is the one before it as far as the answer goes
@@ -148,7 +150,7 @@ module _ (a m : List ℕ) (channel : ℕ) (bytes words held : List ℕ) (la : le
       in
       record {
         report = here ∙ ap (λ (x : View). reportOf x q) (sym sees);
-        records = ap recordsIn left ∙ next-records ∙ ap (λ (x : View). set (recordsIn m) (rowIn q) (recordAfter x q)) (sym sees);
+        records = ap recordsIn left ∙ next-records ∙ ap (λ (x : View). putIn ours (recordsIn m) (rowIn q) (recordAfter x q)) (sym sees);
         buffer =
             puts .buffer
             ∙ ap (λ (l : List ℕ). bufferAfter l held) fits

@@ -1,27 +1,28 @@
 -- One call, from a state that a sequence from the start can leave: what it keeps, and what it gives in two states that agree on the
 -- chosen processors. Assumes nothing.
 use Prim.Native.Nat.{ℕ}
-use mathlib.Core.Path.{_≡_, sym, subst, subst⁻¹, _∙_, ap}
-use mathlib.Core.Bool.{true, false}
+use mathlib.Core.Path.{_≡_, sym, subst, subst⁻¹, _∙_, ap, ap₂}
+use mathlib.Core.Bool.{Bool, true, false, not, _||_}
 use mathlib.Core.List.{List}
 use mathlib.Core.Logic.{⊎-elim}
-use lib.ListN.{length, getD, set}
+use lib.ListN.{length}
 use lib.Dec.{eqb}
-use borrow.Author.Tests.{eqb-true}
-use Rattle.rules.specs.Table.{anyOf}
-use Rattle.rules.specs.Board.{rows, rowOf}
+use borrow.Author.Tests.{eqb-true, not-true}
+use Rattle.rules.specs.Table.{anyOf, allOf}
+use Rattle.rules.specs.declared.Record.{Record}
+use Rattle.rules.specs.Board.{Board, Processor, rows, rowOf, onBoard, homeAt, shareControl}
 use Rattle.rules.specs.Message.{Query, subjectOf, isAbout}
 use Rattle.rules.specs.Outcome.{View, outcomeOf, carriedOut}
 use Rattle.rules.specs.Effect.{recordAfter}
 use Rattle.rules.specs.Answer.{reportOf, answerOf}
-use Rattle.rules.specs.State.{listed, Setup, State, freeRecord, entryOf, recordOf, viewOf, stored}
+use Rattle.rules.specs.State.{listed, Setup, State, ownOf, joined, freeOwn, entryOf, recordIn, recordOf, viewOf, putIn, stored}
 use Rattle.rules.specs.Call.{Offer, afterOffer, afterMessage, answerTo, Call, offer, message, next}
 use Rattle.rules.specs.Sequence.{permittedFor, freeOrPermitted, Sound}
-use Rattle.rules.proofs.Tests.{decide, clash, and-right, and-both, anyOf-member, anyOf-find, set-alike}
-use Rattle.rules.proofs.Rows.{row-one}
+use Rattle.rules.proofs.Tests.{decide, clash, and-right, and-both, or-cases, anyOf-member, anyOf-find, allOf-member, set-alike}
+use Rattle.rules.proofs.Rows.{row-one, board-member}
 use Rattle.rules.proofs.Rights.{allowed, sender-permitted, carried-about, about-names}
 use Rattle.rules.proofs.Sound.{offer-kept, message-refused, stored-other, sound-next}
-use Rattle.noninterference.specs.Statement.{insider, aboutChosen, picked}
+use Rattle.noninterference.specs.Statement.{clustersWhole, insider, aboutChosen, picked}
 
 -- a message about a chosen processor works on the record of that one
 subject-chosen : (chosen : List ℕ) (q : Query) → aboutChosen chosen q ≡ true → anyOf (eqb (subjectOf q)) chosen ≡ true
@@ -30,7 +31,20 @@ subject-chosen chosen q about =
     let found = anyOf-find (isAbout q) chosen about in
     subst⁻¹ (λ (p : ℕ). anyOf (eqb p) chosen ≡ true) (about-names q (found .0) (found .2)) (found .1)
 
-module _ (setup : Setup) (chosen : List ℕ) (something : listed (setup .source) ≡ true) where
+-- who shares a control word with a chosen processor is chosen
+sharer-chosen : (b : Board) (chosen : List ℕ) → clustersWhole b chosen ≡ true → (p x : ℕ) → anyOf (eqb p) chosen ≡ true
+    → onBoard b x ≡ true → shareControl b p x ≡ true → anyOf (eqb x) chosen ≡ true
+unfolding clustersWhole
+sharer-chosen b chosen whole p x chose on shared =
+    ⊎-elim (λ apart. clash shared (not-true (shareControl b p x) apart)) (λ there. there)
+    (or-cases (not (shareControl b p x)) (anyOf (eqb x) chosen)
+    (board-member b (λ (n : ℕ). not (shareControl b p n) || anyOf (eqb n) chosen) x
+    (allOf-member
+    (λ (r : ℕ). allOf (λ (y : Processor). not (shareControl b r (y .number)) || anyOf (eqb (y .number)) chosen) (b .processors))
+    chosen p whole chose)
+    on))
+
+module _ (setup : Setup) (chosen : List ℕ) (something : listed (setup .source) ≡ true) (whole : clustersWhole (setup .board) chosen ≡ true) where
   -- the states that sequences from the start can leave
   pub record Reached (s : State) : Type 0 where
     pub sound : Sound s
@@ -57,26 +71,42 @@ module _ (setup : Setup) (chosen : List ℕ) (something : listed (setup .source)
         (subst (λ (u : Setup). permittedFor u (subjectOf q) (q .channel) ≡ true) (r .same)
         (sender-permitted (viewOf s (subjectOf q)) q (r .sound .holder-permitted (subjectOf q)) ok))
 
-    -- a call that is not picked leaves the chosen records
-    pub unpicked-keeps : (q : Query) → picked setup chosen q ≡ false → (p : ℕ) → anyOf (eqb p) chosen ≡ true
-        → recordOf (afterMessage s q) p ≡ recordOf s p
-    unfolding picked aboutChosen afterMessage viewOf
-    unpicked-keeps q out p m =
-        let b = s .setup .board in
+    -- a message that is carried out and not picked works on no chosen processor
+    unpicked-elsewhere : (q : Query) → picked setup chosen q ≡ false → carriedOut (outcomeOf (viewOf s (subjectOf q)) q) ≡ true
+        → anyOf (eqb (subjectOf q)) chosen ≡ false
+    unfolding picked aboutChosen
+    unpicked-elsewhere q out ok =
         ⊎-elim
-        (λ ok.
-        ⊎-elim
-        (λ same.
-        let is : p ≡ subjectOf q = row-one b p (subjectOf q) (eqb-true _ _ same) (allowed (viewOf s (subjectOf q)) q ok .onboard) in
-        let here : anyOf (eqb (subjectOf q)) chosen ≡ true = subst (λ (x : ℕ). anyOf (eqb x) chosen ≡ true) is m in
+        (λ here.
         clash
         (and-both (carried-insider q here ok)
         (anyOf-member (isAbout q) chosen (subjectOf q) here (carried-about (viewOf s (subjectOf q)) q ok)))
         out)
-        (λ apart. stored-other s (subjectOf q) (recordAfter (viewOf s (subjectOf q)) q) p apart)
-        (decide (eqb (rowOf b p) (rowOf b (subjectOf q)))))
+        (λ elsewhere. elsewhere)
+        (decide (anyOf (eqb (subjectOf q)) chosen))
+
+    -- a call that is not picked leaves the chosen records: what is their own, and the control words that they share
+    pub unpicked-keeps : (q : Query) → picked setup chosen q ≡ false → (p : ℕ) → anyOf (eqb p) chosen ≡ true
+        → recordOf (afterMessage s q) p ≡ recordOf s p
+    unfolding afterMessage viewOf
+    unpicked-keeps q out p m =
+        let b = s .setup .board in
+        let x = subjectOf q in
+        ⊎-elim
+        (λ ok.
+        let on = allowed (viewOf s x) q ok .onboard in
+        let elsewhere = unpicked-elsewhere q out ok in
+        let whole-here = subst⁻¹ (λ (u : Setup). clustersWhole (u .board) chosen ≡ true) (r .same) whole in
+        let apart : eqb (rowOf b p) (rowOf b x) ≡ false =
+        ⊎-elim (λ same. clash (subst (λ (y : ℕ). anyOf (eqb y) chosen ≡ true) (row-one b p x (eqb-true _ _ same) on) m) elsewhere) (λ f. f)
+        (decide (eqb (rowOf b p) (rowOf b x)))
+        in
+        let unshared : shareControl b p x ≡ false =
+        ⊎-elim (λ shared. clash (sharer-chosen b chosen whole-here p x m on shared) elsewhere) (λ f. f) (decide (shareControl b p x))
+        in
+        stored-other s x (recordAfter (viewOf s x) q) p apart unshared)
         (λ refused. ap (λ (t : State). recordOf t p) (message-refused s q refused))
-        (decide (carriedOut (outcomeOf (viewOf s (subjectOf q)) q)))
+        (decide (carriedOut (outcomeOf (viewOf s x) q)))
 
     -- no outsider's message about a chosen processor is carried out
     pub outsider-refused-here : (q : Query) → aboutChosen chosen q ≡ true → insider setup chosen (q .channel) ≡ false
@@ -91,23 +121,27 @@ module _ (setup : Setup) (chosen : List ℕ) (something : listed (setup .source)
   abbrev pub Agree : State → State → Type 0
   Agree s t = (p : ℕ) → anyOf (eqb p) chosen ≡ true → recordOf s p ≡ recordOf t p
 
-  -- the record of p after a message, by the rows of the start's board
+  -- the record of p, and that after a message, by the start's board
+  record-at : (s : State) → Reached s → (p : ℕ) → recordOf s p ≡ recordIn (setup .board) (s .records) (rowOf (setup .board) p)
+  unfolding recordOf
+  record-at s r p = ap (λ (u : Setup). recordIn (u .board) (s .records) (rowOf (u .board) p)) (r .same)
+
   after-at : (s : State) → Reached s → (q : Query) (p : ℕ)
       → recordOf (afterMessage s q) p
-      ≡ getD (set (s .records) (rowOf (setup .board) (subjectOf q)) (recordAfter (viewOf s (subjectOf q)) q)) (rowOf (setup .board) p) freeRecord
+      ≡ recordIn (setup .board) (putIn (setup .board) (s .records) (rowOf (setup .board) (subjectOf q)) (recordAfter (viewOf s (subjectOf q)) q)) (rowOf (setup .board) p)
   unfolding recordOf afterMessage stored
   after-at s r q p =
       ap
       (λ (u : Setup).
-      getD (set (s .records) (rowOf (u .board) (subjectOf q)) (recordAfter (viewOf s (subjectOf q)) q)) (rowOf (u .board) p) freeRecord)
+      recordIn (u .board) (putIn (u .board) (s .records) (rowOf (u .board) (subjectOf q)) (recordAfter (viewOf s (subjectOf q)) q)) (rowOf (u .board) p))
       (r .same)
 
-  record-at : (s : State) → Reached s → (p : ℕ) → recordOf s p ≡ getD (s .records) (rowOf (setup .board) p) freeRecord
-  unfolding recordOf
-  record-at s r p = ap (λ (u : Setup). getD (s .records) (rowOf (u .board) p) freeRecord) (r .same)
-
-  size-is : (s : State) → Reached s → length (s .records) ≡ rows (setup .board)
-  size-is s r = r .sound .rows-there ∙ ap (λ (u : Setup). rows (u .board)) (r .same)
+  -- as many rows in both
+  same-size : (s t : State) → Reached s → Reached t
+      → (length (s .records .own) ≡ length (t .records .own)) × (length (s .records .controls) ≡ length (t .records .controls))
+  same-size s t rs rt =
+      let same = ap (λ (u : Setup). rows (u .board)) (rs .same ∙ sym (rt .same)) in
+      (rs .sound .rows-there ∙ same ∙ sym (rt .sound .rows-there), rs .sound .homes-there ∙ same ∙ sym (rt .sound .homes-there))
 
   module _ (s t : State) (rs : Reached s) (rt : Reached t) (agree : Agree s t) (q : Query) (pick : picked setup chosen q ≡ true) where
     view-same : viewOf s (subjectOf q) ≡ viewOf t (subjectOf q)
@@ -129,11 +163,18 @@ module _ (setup : Setup) (chosen : List ℕ) (something : listed (setup .source)
     answer-same = ap (λ (v : View). record { report = reportOf v q; bytes = answerOf v q }) view-same
 
     pub agree-after : Agree (afterMessage s q) (afterMessage t q)
+    unfolding recordIn putIn
     agree-after p m =
-        let x = rowOf (setup .board) (subjectOf q) in
+        let b = setup .board in
+        let x = rowOf b (subjectOf q) in
+        let row = rowOf b p in
+        let after = recordAfter (viewOf t (subjectOf q)) q in
+        let sizes = same-size s t rs rt in
+        let alike = sym (record-at s rs p) ∙ agree p m ∙ record-at t rt p in
         after-at s rs q p
-        ∙ ap (λ (v : View). getD (set (s .records) x (recordAfter v q)) (rowOf (setup .board) p) freeRecord) view-same
-        ∙ set-alike (s .records) (t .records) x (rowOf (setup .board) p) (recordAfter (viewOf t (subjectOf q)) q) freeRecord
-        (size-is s rs ∙ sym (size-is t rt))
-        (sym (record-at s rs p) ∙ agree p m ∙ record-at t rt p)
+        ∙ ap (λ (v : View). recordIn b (putIn b (s .records) x (recordAfter v q)) row) view-same
+        ∙ ap₂ joined
+        (set-alike (s .records .own) (t .records .own) x row (ownOf after) freeOwn (sizes .0) (ap ownOf alike))
+        (set-alike (s .records .controls) (t .records .controls) (homeAt b x) (homeAt b row) (after .control) 0 (sizes .1)
+        (ap (λ (r : Record). r .control) alike))
         ∙ sym (after-at t rt q p)

@@ -9,7 +9,7 @@ use Rattle.rules.specs.State.{listed, Setup, State}
 use Rattle.rules.specs.Call.{afterMessage, Answer, answerTo, Lent, queryOf, Call, offer, message, next}
 use Rattle.rules.specs.Sequence.{run}
 use Rattle.rules.proofs.Tests.{decide}
-use Rattle.noninterference.specs.Statement.{picked, picks, answers}
+use Rattle.noninterference.specs.Statement.{clustersWhole, picked, picks, answers}
 use Rattle.noninterference.proofs.OneCall.{Reached, offer-stays, call-reached, unpicked-keeps, Agree, answer-same, agree-after}
 
 -- the picks alone, and their answers
@@ -21,23 +21,23 @@ pub answerPicks : State → List Query → List Answer
 answerPicks s [] = []
 answerPicks s (q ∷ qs) = answerTo s q ∷ answerPicks (afterMessage s q) qs
 
-module _ (setup : Setup) (chosen : List ℕ) (something : listed (setup .source) ≡ true) where
+module _ (setup : Setup) (chosen : List ℕ) (something : listed (setup .source) ≡ true) (whole : clustersWhole (setup .board) chosen ≡ true) where
   abbrev R : State → Type 0
-  R = Reached setup chosen something
+  R = Reached setup chosen something whole
 
   -- a sequence leaves a state that is reached
   pub run-reached : (cs : List Call) (s : State) → R s → R (run s cs)
   unfolding run
   run-reached [] s r = r
-  run-reached (c ∷ cs) s r = run-reached cs (next s c) (call-reached setup chosen something s r c)
+  run-reached (c ∷ cs) s r = run-reached cs (next s c) (call-reached setup chosen something whole s r c)
 
   -- what a sequence from s and its picks from t have in common
   pub record Erased (s t : State) (cs : List Call) : Type 0 where
     pub answered : answers setup chosen s cs ≡ answerPicks t (picks setup chosen cs)
-    pub left : Agree setup chosen something (run s cs) (runPicks t (picks setup chosen cs))
+    pub left : Agree setup chosen something whole (run s cs) (runPicks t (picks setup chosen cs))
 
   -- a picked call: both answer it, and both go on
-  with-pick : (s t : State) (rs : R s) (rt : R t) → Agree setup chosen something s t → (lent : Lent) (cs : List Call)
+  with-pick : (s t : State) (rs : R s) (rt : R t) → Agree setup chosen something whole s t → (lent : Lent) (cs : List Call)
       → picked setup chosen (queryOf lent) ≡ true
       → Erased (afterMessage s (queryOf lent)) (afterMessage t (queryOf lent)) cs
       → Erased s t (message lent ∷ cs)
@@ -46,7 +46,7 @@ module _ (setup : Setup) (chosen : List ℕ) (something : listed (setup .source)
       record {
         answered =
             rw pick
-            (ap₂ _∷_ (answer-same setup chosen something s t rs rt agree (queryOf lent) pick) (rest .answered));
+            (ap₂ _∷_ (answer-same setup chosen something whole s t rs rt agree (queryOf lent) pick) (rest .answered));
         left = rw pick (rest .left);
       }
 
@@ -58,23 +58,23 @@ module _ (setup : Setup) (chosen : List ℕ) (something : listed (setup .source)
   unfolding answers picks run next answerPicks runPicks
   without-pick s t lent cs pick rest = record { answered = rw pick (rest .answered); left = rw pick (rest .left) }
 
-  pub erase : (cs : List Call) (s t : State) → R s → R t → Agree setup chosen something s t → Erased s t cs
+  pub erase : (cs : List Call) (s t : State) → R s → R t → Agree setup chosen something whole s t → Erased s t cs
   unfolding answers picks run next answerPicks runPicks
   erase [] s t rs rt agree = record { answered = refl; left = agree }
   erase (offer o ∷ cs) s t rs rt agree =
-      let e = offer-stays setup chosen something s rs o in
+      let e = offer-stays setup chosen something whole s rs o in
       let rest = erase cs s t rs rt agree in
       record { answered = rw e (rest .answered); left = rw e (rest .left) }
   erase (message lent ∷ cs) s t rs rt agree =
       let q = queryOf lent in
-      let rs′ = call-reached setup chosen something s rs (message lent) in
+      let rs′ = call-reached setup chosen something whole s rs (message lent) in
       ⊎-elim
       (λ pick.
       with-pick s t rs rt agree lent cs pick
-      (erase cs (afterMessage s q) (afterMessage t q) rs′ (call-reached setup chosen something t rt (message lent))
-      (agree-after setup chosen something s t rs rt agree q pick)))
+      (erase cs (afterMessage s q) (afterMessage t q) rs′ (call-reached setup chosen something whole t rt (message lent))
+      (agree-after setup chosen something whole s t rs rt agree q pick)))
       (λ pick.
       without-pick s t lent cs pick
       (erase cs (afterMessage s q) t rs′ rt
-      (λ p c. unpicked-keeps setup chosen something s rs q pick p c ∙ agree p c)))
+      (λ p c. unpicked-keeps setup chosen something whole s rs q pick p c ∙ agree p c)))
       (decide (picked setup chosen q))

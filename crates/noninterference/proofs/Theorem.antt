@@ -17,19 +17,19 @@ use Rattle.rules.specs.Sequence.{run, freeOrPermitted, Sound}
 use Rattle.rules.proofs.Tests.{decide, cond-true, cond-false, allOf-member}
 use Rattle.rules.proofs.Entries.{named-there}
 use Rattle.rules.proofs.Sound.{sound-fresh, sound-run}
-use Rattle.noninterference.specs.Statement.{Ready, Noninterference, FromEveryStart, FreshlyLoaded, NoTrace}
+use Rattle.noninterference.specs.Statement.{clustersWhole, Ready, Noninterference, FromEveryStart, FreshlyLoaded, NoTrace}
 use Rattle.noninterference.proofs.OneCall.{Reached, outsider-refused-here}
 use Rattle.noninterference.proofs.Sequences.{Erased, erase, run-reached, answerPicks, runPicks}
 
 -- ---- from a sound start
 
 module _ (s : State) (sound : Sound s) (chosen : List ℕ) (ready : Ready s chosen) where
-  start-reached : Reached (s .setup) chosen (ready .something) s
+  start-reached : Reached (s .setup) chosen (ready .something) (ready .whole) s
   start-reached = record { sound = sound; same = refl }
 
   -- the picks of a sequence, run alone
-  alone : (calls : List Call) → Erased (s .setup) chosen (ready .something) s s calls
-  alone calls = erase (s .setup) chosen (ready .something) calls s s start-reached start-reached (λ p m. refl)
+  alone : (calls : List Call) → Erased (s .setup) chosen (ready .something) (ready .whole) s s calls
+  alone calls = erase (s .setup) chosen (ready .something) (ready .whole) calls s s start-reached start-reached (λ p m. refl)
 
   -- a processor that a used entry of the accepted list names has an entry in the state
   entry-there : (p : ℕ) → anyOf (eqb p) chosen ≡ true → hasEntry (entryOf (s .setup) p) ≡ true
@@ -40,8 +40,8 @@ module _ (s : State) (sound : Sound s) (chosen : List ℕ) (ready : Ready s chos
       (named-there b (listIn (s .setup .source)) p (sound .list-good (ready .something))
       (allOf-member (namedIn (parts (listIn (s .setup .source)))) chosen p (ready .named) m))
 
-  reached : (calls : List Call) → Reached (s .setup) chosen (ready .something) (run s calls)
-  reached calls = run-reached (s .setup) chosen (ready .something) calls s start-reached
+  reached : (calls : List Call) → Reached (s .setup) chosen (ready .something) (ready .whole) (run s calls)
+  reached calls = run-reached (s .setup) chosen (ready .something) (ready .whole) calls s start-reached
 
   from-sound : Noninterference s chosen
   from-sound =
@@ -60,7 +60,7 @@ module _ (s : State) (sound : Sound s) (chosen : List ℕ) (ready : Ready s chos
             (reached calls .sound .holder-permitted p);
         outsider-refused =
             λ calls q about out.
-            outsider-refused-here (s .setup) chosen (ready .something) (run s calls) (reached calls) q about out;
+            outsider-refused-here (s .setup) chosen (ready .something) (ready .whole) (run s calls) (reached calls) q about out;
       }
 
 -- ---- the theorem
@@ -75,15 +75,16 @@ loaded-is : (b : Board) (bytes : List ℕ) → accepted (verdictOf b false bytes
 unfolding afterOffer verdictTo fresh listed
 loaded-is b bytes ok = cond-true _ _ ok
 
-loaded-ready : (b : Board) (bytes chosen : List ℕ) → allOf (namedIn (parts bytes)) chosen ≡ true → Ready (taken (fresh b) (list bytes)) chosen
-unfolding taken listed listIn
-loaded-ready b bytes chosen named = record { something = refl; named = named }
+loaded-ready : (b : Board) (bytes chosen : List ℕ) → allOf (namedIn (parts bytes)) chosen ≡ true → clustersWhole b chosen ≡ true
+    → Ready (taken (fresh b) (list bytes)) chosen
+unfolding taken fresh listed listIn
+loaded-ready b bytes chosen named whole = record { something = refl; named = named; whole = whole }
 
 pub freshly-loaded : (b : Board) → FreshlyLoaded b
 unfolding run next
-freshly-loaded b bytes chosen ok named =
+freshly-loaded b bytes chosen ok named whole =
     noninterference b (offer (list bytes) ∷ []) chosen
-    (subst⁻¹ (λ (s : State). Ready s chosen) (loaded-is b bytes ok) (loaded-ready b bytes chosen named))
+    (subst⁻¹ (λ (s : State). Ready s chosen) (loaded-is b bytes ok) (loaded-ready b bytes chosen named whole))
 
 -- ---- before the first accepted list
 

@@ -2,11 +2,11 @@
 -- proofs/Theorem.antt. The rules are those of crate `rules`, for any board. Crate traces says the same of the code. Assumes nothing.
 use Prim.Native.Nat.{ℕ}
 use mathlib.Core.Path.{_≡_}
-use mathlib.Core.Bool.{Bool, true, false, cond, _&&_}
+use mathlib.Core.Bool.{Bool, true, false, cond, not, _&&_, _||_}
 use mathlib.Core.List.{List, [], _∷_}
 use lib.Dec.{eqb}
 use Rattle.rules.specs.Table.{anyOf, allOf}
-use Rattle.rules.specs.Board.{Board}
+use Rattle.rules.specs.Board.{Board, Processor, shareControl}
 use Rattle.rules.specs.AccessList.{parts, namedIn, hasEntry, verdictOf, accepted}
 use Rattle.rules.specs.Message.{Query, isAbout}
 use Rattle.rules.specs.Outcome.{carriedOut}
@@ -14,10 +14,20 @@ use Rattle.rules.specs.State.{listed, listIn, Setup, State, fresh, entryOf, rec
 use Rattle.rules.specs.Call.{list, afterOffer, Answer, answerTo, queryOf, Call, offer, message, next}
 use Rattle.rules.specs.Sequence.{run, permittedFor, freeOrPermitted}
 
--- what the start must be: a list was accepted, and every chosen processor has an entry, that is, a used entry of that list's bytes names it
+-- document 02, L4: the chosen processors "hold a cluster whole or not at all": every processor of the board that shares its control word with a
+-- chosen one is chosen
+unfoldable pub clustersWhole : Board → List ℕ → Bool
+clustersWhole b chosen =
+    allOf
+    (λ (p : ℕ). allOf (λ (x : Processor). not (shareControl b p (x .number)) || anyOf (eqb (x .number)) chosen) (b .processors))
+    chosen
+
+-- what the start must be: a list was accepted, every chosen processor has an entry, that is, a used entry of that list's bytes names it, and
+-- clusters are chosen whole
 pub record Ready (s : State) (chosen : List ℕ) : Type 0 where
   pub something : listed (s .setup .source) ≡ true
   pub named : allOf (namedIn (parts (listIn (s .setup .source)))) chosen ≡ true
+  pub whole : clustersWhole (s .setup .board) chosen ≡ true
 
 -- an "insider", 01's term: a host permitted for at least one chosen processor. Any other channel byte is an "outsider"
 unfoldable pub insider : Setup → List ℕ → ℕ → Bool
@@ -56,7 +66,7 @@ pub record Noninterference (s : State) (chosen : List ℕ) : Type 0 where
       (these those : List Call)
       → picks (s .setup) chosen these ≡ picks (s .setup) chosen those
       → answers (s .setup) chosen s these ≡ answers (s .setup) chosen s those
-  -- and leave the chosen processors the same records
+  -- and leave the chosen processors the same records, a cluster's control word among them
   pub same-records :
       (these those : List Call)
       → picks (s .setup) chosen these ≡ picks (s .setup) chosen those
@@ -84,6 +94,7 @@ FreshlyLoaded b =
     (bytes chosen : List ℕ)
     → accepted (verdictOf b false bytes) ≡ true
     → allOf (namedIn (parts bytes)) chosen ≡ true
+    → clustersWhole b chosen ≡ true
     → Noninterference (afterOffer (fresh b) (list bytes)) chosen
 
 -- calls that come before the first accepted list leave the state as it was, so that start depends on the list alone

@@ -6,9 +6,9 @@ use mathlib.Core.Bool.{false, cond}
 use mathlib.Core.List.{List}
 use lib.ListN.{drop, replicate}
 use Rattle.rules.specs.Bytes.{byteAt}
-use Rattle.rules.specs.declared.Record.{Record}
 use Rattle.rules.specs.Board.{ours}
 use Rattle.rules.specs.AccessList.{verdictOf}
+use Rattle.rules.specs.State.{Records}
 use Rattle.rules.specs.Call.{Answer, answerTo, Lent, queryOf, message, next}
 use Rattle.access.specs.Memory.{listedIn}
 use Rattle.loading.specs.Loaded.{accessAfter}
@@ -36,7 +36,7 @@ abbrev pub messageText : List ℕ → List ℕ → List ℕ → List ℕ → Lis
 messageText access memory body words =
     messageLine (answerIn access memory body words .report) (answerIn access memory body words .bytes)
 
-abbrev pub recordsAfter : List ℕ → List ℕ → List ℕ → List ℕ → List Record
+abbrev pub recordsAfter : List ℕ → List ℕ → List ℕ → List ℕ → Records
 recordsAfter access memory body words = next (stateIn access memory) (message (lentIn body words)) .records
 
 pub record PlayedMessage (access memory body words line memory′ line′ : List ℕ) (n : ℕ) : Type 0 where

@@ -1,11 +1,11 @@
--- The laws of the lent memory: a record that was stored is read back, at its row and at no other; what a call sees of the processor
--- that it names is what stands at its row. Assumes nothing.
+-- The laws of the lent memory: a record that was stored is read back, at its row and at no other, and its control word at its home and at
+-- no other; what a call sees of the processor that it names is what stands at its row and home. Assumes nothing.
 use Prim.Native.Nat.{ℕ, zero, suc, _+_, _*_, _≤_, _<_}
-use mathlib.Core.Path.{_≡_, refl, sym, ap, _∙_}
+use mathlib.Core.Path.{_≡_, refl, sym, subst⁻¹, ap, ap₂, _∙_}
 use mathlib.Core.Bool.{true, false}
 use mathlib.Core.List.{List, [], _∷_}
 use mathlib.Core.Logic.{_⊎_, inl, inr, ⊎-elim}
-use native.Mathlib.Nat.{add-zero, add-suc, suc-add, zero-add, not-suc-le-zero, le-of-suc-le-suc}
+use native.Mathlib.Nat.{add-zero, add-suc, suc-add, zero-add, not-suc-le-zero, le-of-suc-le-suc, le-trans}
 use native.Mathlib.Numerals.{towards-suc}
 use native.Mathlib.Omega.{arith}
 use lib.ListN.{length, getD, set, replicate, length-set, List·getD-eq-default}
@@ -13,14 +13,14 @@ use lib.Seq.{sets, set-getD, getD-set-same, getD-set-other}
 use lib.Dec.{ltb}
 use borrow.Author.Tests.{lt-ltb, le-ltb, ltb-true, ltb-false}
 use Rattle.rules.specs.declared.Record.{Record}
-use Rattle.rules.specs.Board.{ours, rows, rowOf}
+use Rattle.rules.specs.Board.{ours, rows, rowOf, homeAt}
 use Rattle.rules.specs.AccessList.{noEntry, noEntries}
-use Rattle.rules.specs.State.{listed, freeRecord, fresh, entryOf, recordOf, viewOf}
+use Rattle.rules.specs.State.{listed, Own, ownOf, joined, freeOwn, fresh, entryOf, recordIn, recordOf, viewOf, putIn}
 use Rattle.rules.proofs.Tests.{decide}
-use Rattle.rules.proofs.Rows.{row-within}
+use Rattle.rules.proofs.Rows.{row-within, home-within}
 use Rattle.access.specs.Memory.{byRow, listedIn, entryAt, entriesIn, someList, setupIn}
 use Rattle.access.proofs.Kept.{listed-some}
-use Rattle.records.specs.Memory.{recordAt, recordsIn, stateIn, viewIn, withRecord}
+use Rattle.records.specs.Memory.{ownAt, controlPlace, controlAt, recordAt, recordsIn, stateIn, viewIn, withRecord}
 
 -- ---- rows
 
@@ -83,33 +83,63 @@ sets-at (v ∷ vs) l i (suc j) fits h =
 
 -- ---- a record stored at a row
 
-abbrev wordsOf : Record → List ℕ
-wordsOf r = r .controller ∷ r .low ∷ r .high ∷ r .config ∷ r .control ∷ []
+-- the words of a row that are its processor's own
+abbrev wordsOf : Own → List ℕ
+wordsOf o = o .controller ∷ o .low ∷ o .high ∷ o .config ∷ []
 
-stored-is : (m : List ℕ) (row : ℕ) (r : Record) → 5 * row + 4 < length m → withRecord m row r ≡ sets m (5 * row) (wordsOf r)
+stored-is : (m : List ℕ) (row : ℕ) (r : Record) → 5 * row + 4 < length m
+    → withRecord m row r ≡ set (sets m (5 * row) (wordsOf (ownOf r))) (controlPlace (homeAt ours row)) (r .control)
 unfolding withRecord
 stored-is m row r h = rw (lt-ltb (5 * row + 4) (length m) h) (simp towards-suc)
 
-module _ (m : List ℕ) (row : ℕ) (r : Record) (fits : 5 * row + 4 < length m) where
-  at-row : (j : ℕ) → j < 5 → getD (withRecord m row r) (5 * row + j) 0 ≡ getD (wordsOf r) j 0
-  at-row j h = ap (λ (l : List ℕ). getD l (5 * row + j) 0) (stored-is m row r fits) ∙ sets-at (wordsOf r) m (5 * row) j (omega arith) h
+-- no word of a row's own is a control word, at whatever home
+own-not-control : (row home j : ℕ) → j < 4 → 5 * row + j ≡ controlPlace home → ⊥
+own-not-control row home j h e = omega arith
 
-  pub record-same : recordAt (withRecord m row r) row ≡ r
-  record-same =
+sets-length : (vs l : List ℕ) (i : ℕ) → length (sets l i vs) ≡ length l
+sets-length [] l i = refl
+sets-length (v ∷ vs) l i = sets-length vs (set l i v) (suc i) ∙ length-set l i v
+
+module _ (m : List ℕ) (row : ℕ) (r : Record) (fits : 5 * row + 4 < length m) where
+  -- a word of its own, and any word but the one control word, are what the stores of its own words leave
+  but-control : (k : ℕ) → (k ≡ controlPlace (homeAt ours row) → ⊥)
+      → getD (withRecord m row r) k 0 ≡ getD (sets m (5 * row) (wordsOf (ownOf r))) k 0
+  but-control k other =
+      ap (λ (l : List ℕ). getD l k 0) (stored-is m row r fits)
+      ∙ getD-set-other (sets m (5 * row) (wordsOf (ownOf r))) (controlPlace (homeAt ours row)) k (r .control) 0 other
+
+  at-row : (j : ℕ) → j < 4 → getD (withRecord m row r) (5 * row + j) 0 ≡ getD (wordsOf (ownOf r)) j 0
+  at-row j h =
+      but-control (5 * row + j) (own-not-control row (homeAt ours row) j h)
+      ∙ sets-at (wordsOf (ownOf r)) m (5 * row) j (omega arith) h
+
+  own-same : ownAt (withRecord m row r) row ≡ ownOf r
+  own-same =
       λ t.
       record {
         controller = (ap (λ (k : ℕ). getD (withRecord m row r) k 0) (sym (add-zero (5 * row))) ∙ at-row 0 (omega arith)) t;
         low = at-row 1 (omega arith) t;
         high = at-row 2 (omega arith) t;
         config = at-row 3 (omega arith) t;
-        control = at-row 4 (omega arith) t;
       }
 
-  off-row : (k : ℕ) → (k < 5 * row) ⊎ (5 * row + 5 ≤ k) → getD (withRecord m row r) k 0 ≡ getD m k 0
-  off-row k out = ap (λ (l : List ℕ). getD l k 0) (stored-is m row r fits) ∙ sets-other (wordsOf r) m (5 * row) k out
+  control-same : controlAt (withRecord m row r) (homeAt ours row) ≡ r .control
+  control-same =
+      ap (λ (l : List ℕ). getD l (controlPlace (homeAt ours row)) 0) (stored-is m row r fits)
+      ∙ getD-set-same (sets m (5 * row) (wordsOf (ownOf r))) (controlPlace (homeAt ours row)) (r .control) 0
+      (subst⁻¹ (λ (n : ℕ). controlPlace (homeAt ours row) < n) (sets-length (wordsOf (ownOf r)) m (5 * row))
+      (let home = home-within ours row in omega arith))
+
+  pub record-same : recordAt (withRecord m row r) row ≡ r
+  record-same = ap₂ joined own-same control-same
+
+  -- a word outside the row that is not the control word stays
+  off-row : (k : ℕ) → (k ≡ controlPlace (homeAt ours row) → ⊥) → (k < 5 * row) ⊎ (5 * row + 4 ≤ k)
+      → getD (withRecord m row r) k 0 ≡ getD m k 0
+  off-row k other out = but-control k other ∙ sets-other (wordsOf (ownOf r)) m (5 * row) k out
 
   -- the words of another row stand before it or behind it
-  beside : (k j : ℕ) → (k ≡ row → ⊥) → j < 5 → (5 * k + j < 5 * row) ⊎ (5 * row + 5 ≤ 5 * k + j)
+  beside : (k j : ℕ) → (k ≡ row → ⊥) → j < 5 → (5 * k + j < 5 * row) ⊎ (5 * row + 4 ≤ 5 * k + j)
   beside k j apart h =
       ⊎-elim (λ t. inl (let q = ltb-true k row t in omega arith))
       (λ f.
@@ -119,28 +149,44 @@ module _ (m : List ℕ) (row : ℕ) (r : Record) (fits : 5 * row + 4 < length m)
       (decide (ltb row k)))
       (decide (ltb k row))
 
-  pub record-other : (k : ℕ) → (k ≡ row → ⊥) → recordAt (withRecord m row r) k ≡ recordAt m k
-  record-other k apart =
+  own-off : (k j : ℕ) → (k ≡ row → ⊥) → j < 4 → getD (withRecord m row r) (5 * k + j) 0 ≡ getD m (5 * k + j) 0
+  own-off k j apart h = off-row (5 * k + j) (own-not-control k (homeAt ours row) j h) (beside k j apart (omega arith))
+
+  own-other : (k : ℕ) → (k ≡ row → ⊥) → ownAt (withRecord m row r) k ≡ ownAt m k
+  own-other k apart =
       λ t.
       record {
         controller =
             (ap (λ (n : ℕ). getD (withRecord m row r) n 0) (sym (add-zero (5 * k)))
-            ∙ off-row (5 * k + 0) (beside k 0 apart (omega arith))
+            ∙ own-off k 0 apart (omega arith)
             ∙ ap (λ (n : ℕ). getD m n 0) (add-zero (5 * k))) t;
-        low = off-row (5 * k + 1) (beside k 1 apart (omega arith)) t;
-        high = off-row (5 * k + 2) (beside k 2 apart (omega arith)) t;
-        config = off-row (5 * k + 3) (beside k 3 apart (omega arith)) t;
-        control = off-row (5 * k + 4) (beside k 4 apart (omega arith)) t;
+        low = own-off k 1 apart (omega arith) t;
+        high = own-off k 2 apart (omega arith) t;
+        config = own-off k 3 apart (omega arith) t;
       }
 
--- the records read after a store are the records before it with that one set
-pub records-store : (m : List ℕ) (row : ℕ) (r : Record) → length m ≡ 20 → row < 4 → recordsIn (withRecord m row r) ≡ set (recordsIn m) row r
-unfolding recordsIn
+  -- the control word of another home stays, that of the row itself included where it is none
+  control-other : (home : ℕ) → (home ≡ homeAt ours row → ⊥) → controlAt (withRecord m row r) home ≡ controlAt m home
+  control-other home apart =
+      off-row (controlPlace home) (λ e. apart (omega arith))
+      (⊎-elim (λ t. inl (let q = ltb-true home row t in omega arith)) (λ f. inr (let q = ltb-false home row f in omega arith))
+      (decide (ltb home row)))
+
+-- the records read after a store are the records before it with that one put there
+pub records-store : (m : List ℕ) (row : ℕ) (r : Record) → length m ≡ 20 → row < 4 → recordsIn (withRecord m row r) ≡ putIn ours (recordsIn m) row r
+unfolding recordsIn putIn
 records-store m row r size h =
-    sym
-    (byRow-set (recordAt m) (recordAt (withRecord m row r)) r (rows ours) 0 row
-    (ap (recordAt (withRecord m row r)) (zero-add row) ∙ record-same m row r (omega arith))
-    (λ k apart. record-other m row r (omega arith) k (λ e. apart (e ∙ sym (zero-add row)))))
+    let fits : 5 * row + 4 < length m = omega arith in
+    let home = homeAt ours row in
+    ap₂ (λ (os : List Own) (words : List ℕ). record { own = os; controls = words })
+    (sym
+    (byRow-set (ownAt m) (ownAt (withRecord m row r)) (ownOf r) (rows ours) 0 row
+    (ap (ownAt (withRecord m row r)) (zero-add row) ∙ own-same m row r fits)
+    (λ k apart. own-other m row r fits k (λ e. apart (e ∙ sym (zero-add row))))))
+    (sym
+    (byRow-set (controlAt m) (controlAt (withRecord m row r)) (r .control) (rows ours) 0 home
+    (ap (controlAt (withRecord m row r)) (zero-add home) ∙ control-same m row r fits)
+    (λ k apart. control-other m row r fits k (λ e. apart (e ∙ sym (zero-add home))))))
 
 -- a row that is not there is not stored to
 pub records-kept : (m : List ℕ) (row : ℕ) (r : Record) → length m ≡ 20 → 4 ≤ row → withRecord m row r ≡ m
@@ -159,7 +205,7 @@ store-same m row =
       set-getD m (5 * row + 1) 0,
       set-getD m (5 * row + 2) 0,
       set-getD m (5 * row + 3) 0,
-      set-getD m (5 * row + 4) 0,
+      set-getD m (5 * homeAt ours row + 4) 0,
     )))
     (λ (f : ltb (5 * row + 4) (length m) ≡ false). rw f)
     (decide (ltb (5 * row + 4) (length m)))
@@ -178,31 +224,38 @@ no-entry-past a size =
       third = List·getD-eq-default a 0 {n = 20} (omega arith) t;
     }
 
-no-record-past : (m : List ℕ) → length m ≡ 20 → recordAt m (rows ours) ≡ freeRecord
-unfolding freeRecord rows ours
-no-record-past m size =
+no-own-past : (m : List ℕ) → length m ≡ 20 → ownAt m (rows ours) ≡ freeOwn
+unfolding freeOwn rows ours
+no-own-past m size =
     λ t.
     record {
       controller = List·getD-eq-default m 0 {n = 20} (omega arith) t;
       low = List·getD-eq-default m 0 {n = 21} (omega arith) t;
       high = List·getD-eq-default m 0 {n = 22} (omega arith) t;
       config = List·getD-eq-default m 0 {n = 23} (omega arith) t;
-      control = List·getD-eq-default m 0 {n = 24} (omega arith) t;
     }
+
+no-control-past : (m : List ℕ) → length m ≡ 20 → controlAt m (rows ours) ≡ 0
+unfolding rows ours
+no-control-past m size = List·getD-eq-default m 0 {n = 24} (omega arith)
 
 -- what a message sees of the processor that it names is what stands at its row
 pub view-in : (a m : List ℕ) (p : ℕ) → length a ≡ 17 → length m ≡ 20 → viewOf (stateIn a m) p ≡ viewIn a m (rowOf ours p)
-unfolding viewOf entryOf recordOf stateIn setupIn viewIn entriesIn recordsIn
+unfolding viewOf entryOf recordOf recordIn stateIn setupIn viewIn entriesIn recordsIn
 view-in a m p la lm =
+    let row = rowOf ours p in
+    let last = row-within ours p in
     λ t.
     record {
       board = ours;
       listed = listed-some (listedIn a) t;
-      entry = byRow-all (entryAt a) noEntry (rows ours) (rowOf ours p) (row-within ours p) (no-entry-past a la) t;
-      state = byRow-all (recordAt m) freeRecord (rows ours) (rowOf ours p) (row-within ours p) (no-record-past m lm) t;
+      entry = byRow-all (entryAt a) noEntry (rows ours) row last (no-entry-past a la) t;
+      state =
+          joined (byRow-all (ownAt m) freeOwn (rows ours) row last (no-own-past m lm) t)
+          (byRow-all (controlAt m) 0 (rows ours) (homeAt ours row) (le-trans (home-within ours row) last) (no-control-past m lm) t);
     }
 
 -- memory that is all zeros is a fresh manager
 pub zeros-fresh : stateIn (replicate 17 0) (replicate 20 0) ≡ fresh ours
-unfolding stateIn setupIn someList listedIn entriesIn recordsIn byRow entryAt fresh noEntries noEntry rows ours freeRecord
+unfolding stateIn setupIn someList listedIn entriesIn recordsIn byRow entryAt fresh noEntries noEntry rows ours freeOwn
 zeros-fresh = refl

@@ -1,32 +1,44 @@
--- The record memory, 20 words of 32 bits: each row has five words, the controller (0 for none), vector low and high, config and control.
--- With the access memory it holds the rules' state, whatever the content. Assumes nothing.
+-- The record memory, 20 words of 32 bits: each row has five words, the controller (0 for none), vector low and high, config and control, of
+-- which the control word counts where the row is a home. With the access memory it holds the rules' state, whatever the content. Assumes
+-- nothing.
 use Prim.Native.Nat.{ℕ, _+_, _*_}
 use mathlib.Core.Bool.{cond}
 use mathlib.Core.List.{List}
 use lib.ListN.{length, getD, set}
 use lib.Dec.{ltb}
 use Rattle.rules.specs.declared.Record.{Record}
-use Rattle.rules.specs.Board.{ours, rows}
+use Rattle.rules.specs.Board.{ours, rows, homeAt}
 use Rattle.rules.specs.Outcome.{View}
-use Rattle.rules.specs.State.{State}
+use Rattle.rules.specs.State.{Own, Records, State, joined}
 use Rattle.access.specs.Memory.{byRow, setupIn, keptSetup, viewWith}
 
 -- the place of a row's first word
 abbrev pub recordPlace : ℕ → ℕ
 recordPlace row = 5 * row
 
-abbrev pub recordAt : List ℕ → ℕ → Record
-recordAt m row =
+-- what the processor at a row has of its own
+abbrev pub ownAt : List ℕ → ℕ → Own
+ownAt m row =
     record {
       controller = getD m (recordPlace row) 0;
       low = getD m (recordPlace row + 1) 0;
       high = getD m (recordPlace row + 2) 0;
       config = getD m (recordPlace row + 3) 0;
-      control = getD m (recordPlace row + 4) 0;
     }
 
-unfoldable pub recordsIn : List ℕ → List Record
-recordsIn m = byRow (recordAt m) 0 (rows ours)
+-- the place of the control word that is kept at a home, and the word
+abbrev pub controlPlace : ℕ → ℕ
+controlPlace home = recordPlace home + 4
+
+abbrev pub controlAt : List ℕ → ℕ → ℕ
+controlAt m home = getD m (controlPlace home) 0
+
+-- the record of the processor at a row, with the control word of its home
+abbrev pub recordAt : List ℕ → ℕ → Record
+recordAt m row = joined (ownAt m row) (controlAt m (homeAt ours row))
+
+unfoldable pub recordsIn : List ℕ → Records
+recordsIn m = record { own = byRow (ownAt m) 0 (rows ours); controls = byRow (controlAt m) 0 (rows ours) }
 
 -- the rules' state, read out of the two lent memories
 unfoldable pub stateIn : List ℕ → List ℕ → State
@@ -40,7 +52,7 @@ kept s = record { setup = keptSetup (s .setup); records = s .records }
 unfoldable pub viewIn : List ℕ → List ℕ → ℕ → View
 viewIn access records row = viewWith access row (recordAt records row)
 
--- the record memory with a record put at a row; a row that is not there is left alone
+-- the record memory with a record put at a row, the control word at its home; a row that is not there is left alone
 unfoldable pub withRecord : List ℕ → ℕ → Record → List ℕ
 withRecord m row r =
     cond (ltb (recordPlace row + 4) (length m))
@@ -52,6 +64,6 @@ withRecord m row r =
     (r .high))
     (recordPlace row + 3)
     (r .config))
-    (recordPlace row + 4)
+    (controlPlace (homeAt ours row))
     (r .control))
     m

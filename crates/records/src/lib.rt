@@ -1,8 +1,11 @@
 // The processors' records: one record by value, out of the lent record memory and back into it. Its
 // layout is specs/Memory.antt; any content of it is a state.
+ghost use Prim.Native.Nat.{_≤_};
 ghost use mathlib.Core.Path.{_≡_};
 ghost use lib.ListN.{getD};
-ghost use Rattle.records.specs.Memory.{recordAt, withRecord};
+ghost use Rattle.rules.specs.Board.{ours, homeAt};
+ghost use Rattle.records.specs.Memory.{controlPlace, recordAt, withRecord};
+use board::home_at;
 use rules::Record;
 
 // The word at place `i`; past the end there are zeros.
@@ -15,6 +18,14 @@ fn word_at(records: &[u32], i: usize) -> u32
     0
 }
 
+// The place of the control word of the processor at `row`: at its home, which its cluster shares and
+// which is that row or one before it.
+fn control_place(row: u8) -> usize
+    ensures { λ r. ⌜ (r ≡ controlPlace (homeAt ours row)) × (r ≤ controlPlace row) ⌝ }
+{
+    5 * (home_at(row) as usize) + 4
+}
+
 // The record at `row`.
 pub fn load(records: &[u32], row: u8) -> Record
     ensures { λ r. ⌜ r ≡ recordAt (now (records .entry)) row ⌝ }
@@ -25,20 +36,21 @@ pub fn load(records: &[u32], row: u8) -> Record
         low: word_at(records, at + 1),
         high: word_at(records, at + 2),
         config: word_at(records, at + 3),
-        control: word_at(records, at + 4),
+        control: word_at(records, control_place(row)),
     }
 }
 
-// Puts a record at `row`. A row that is not there is left alone.
+// Puts a record at `row`, and its control word at the home. A row that is not there is left alone.
 pub fn store(records: &mut [u32], row: u8, state: Record)
     ensures { λ _. ⌜ now (records .exit) ≡ withRecord (now (records .entry)) row state ⌝ }
 {
     let at = 5 * (row as usize);
+    let word = control_place(row);
     if at + 4 < records.len() {
         records[at] = state.controller;
         records[at + 1] = state.low;
         records[at + 2] = state.high;
         records[at + 3] = state.config;
-        records[at + 4] = state.control;
+        records[word] = state.control;
     }
 }

@@ -1,61 +1,129 @@
--- Rows: two processors of which one is on the board share a row only if they are one; a table that passes its test gives every
--- row. For any board and any table. Assumes nothing.
-use Prim.Native.Nat.{ℕ, suc, pred, _<_, _≤_}
-use mathlib.Core.Path.{_≡_, sym, _∙_, subst, ap}
+-- Rows and homes: two processors of which one is on the board share a row only if they are one; a control word's home is one of the
+-- rows; a table that passes its test gives every row. For any board and any table. Assumes nothing.
+use Prim.Native.Nat.{ℕ, zero, suc, pred, _<_, _≤_}
+use mathlib.Core.Path.{_≡_, refl, sym, _∙_, subst, ap}
 use mathlib.Core.Bool.{Bool, true, false}
-use mathlib.Core.List.{List, [], _∷_}
+use mathlib.Core.List.{List, [], _∷_, map}
 use mathlib.Core.Logic.{⊎-elim}
-use native.Mathlib.Nat.{not-suc-le-zero, le-of-suc-le-suc, zero-add}
+use native.Mathlib.Nat.{not-suc-le-zero, le-of-suc-le-suc}
 use native.Mathlib.Omega.{arith}
 use lib.ListN.{length, getD}
 use lib.Dec.{eqb}
-use borrow.Author.Tests.{eqb-true, ltb-true}
-use Rattle.rules.specs.Table.{allFrom}
-use Rattle.rules.specs.Board.{Board, Processor, placeIn, rows, rowOf, givesRows, onBoard}
-use Rattle.rules.proofs.Tests.{decide, cond-true, cond-false, and-left, and-right, allFrom-at}
+use borrow.Author.Tests.{eqb-true, eq-eqb, ltb-true}
+use Rattle.rules.specs.Table.{placeOf, allOf, allFrom}
+use Rattle.rules.specs.Board.{Board, Processor, rows, rowOf, givesRows, onBoard, clusterAt, homeAt}
+use Rattle.rules.proofs.Tests.{decide, clash, cond-true, cond-false, and-left, and-right, allFrom-gives}
 
--- the place of a processor at the head of the list, and of one that is not there
-at-head : (x : Processor) (xs : List Processor) (p : ℕ) → eqb p (x .number) ≡ true → placeIn (x ∷ xs) p ≡ 0
-unfolding placeIn
-at-head x xs p e = cond-true 0 (suc (placeIn xs p)) e
+-- ---- the place of the first element that passes a test
 
-past-head : (x : Processor) (xs : List Processor) (p : ℕ) → eqb p (x .number) ≡ false → placeIn (x ∷ xs) p ≡ suc (placeIn xs p)
-unfolding placeIn
-past-head x xs p e = cond-false 0 (suc (placeIn xs p)) e
+module _ {A : Type 0} (test : A → Bool) (x : A) (xs : List A) where
+  -- it is at the head, or further on
+  place-head : test x ≡ true → placeOf test (x ∷ xs) ≡ 0
+  unfolding placeOf
+  place-head t = cond-true 0 (suc (placeOf test xs)) t
 
-place-one : (xs : List Processor) (p r : ℕ) → placeIn xs p ≡ placeIn xs r → placeIn xs r < length xs → p ≡ r
+  place-past : test x ≡ false → placeOf test (x ∷ xs) ≡ suc (placeOf test xs)
+  unfolding placeOf
+  place-past f = cond-false 0 (suc (placeOf test xs)) f
+
+-- it is at most the length, which stands for none
+place-within : {A : Type 0} (test : A → Bool) (xs : List A) → placeOf test xs ≤ length xs
+unfolding placeOf
+place-within test [] = omega arith
+place-within test (x ∷ xs) =
+    ⊎-elim (λ t. rw t (omega arith)) (λ f. rw f (let h = place-within test xs in omega arith)) (decide (test x))
+
+-- ---- the row of a processor
+
+-- the processor has number p
+abbrev pub numbered : ℕ → Processor → Bool
+numbered p x = eqb p (x .number)
+
+place-one : (xs : List Processor) (p r : ℕ)
+    → placeOf (numbered p) xs ≡ placeOf (numbered r) xs → placeOf (numbered r) xs < length xs → p ≡ r
 place-one [] p r e h = absurd (not-suc-le-zero h)
 place-one (x ∷ xs) p r e h =
     ⊎-elim
     (λ tp.
     ⊎-elim (λ tr. eqb-true p (x .number) tp ∙ sym (eqb-true r (x .number) tr))
-    (λ fr. absurd (apart (placeIn xs r) (sym (at-head x xs p tp) ∙ e ∙ past-head x xs r fr)))
-    (decide (eqb r (x .number))))
+    (λ fr. absurd (apart (placeOf (numbered r) xs) (sym (place-head (numbered p) x xs tp) ∙ e ∙ place-past (numbered r) x xs fr)))
+    (decide (numbered r x)))
     (λ fp.
-    ⊎-elim (λ tr. absurd (apart (placeIn xs p) (sym (at-head x xs r tr) ∙ sym e ∙ past-head x xs p fp)))
+    ⊎-elim
+    (λ tr. absurd (apart (placeOf (numbered p) xs) (sym (place-head (numbered r) x xs tr) ∙ sym e ∙ place-past (numbered p) x xs fp)))
     (λ fr.
-    place-one xs p r (ap pred (sym (past-head x xs p fp) ∙ e ∙ past-head x xs r fr))
-    (le-of-suc-le-suc (subst (λ (n : ℕ). n < suc (length xs)) (past-head x xs r fr) h)))
-    (decide (eqb r (x .number))))
-    (decide (eqb p (x .number)))
+    place-one xs p r (ap pred (sym (place-past (numbered p) x xs fp) ∙ e ∙ place-past (numbered r) x xs fr))
+    (le-of-suc-le-suc (subst (λ (n : ℕ). n < suc (length xs)) (place-past (numbered r) x xs fr) h)))
+    (decide (numbered r x)))
+    (decide (numbered p x))
   where
     apart : (n : ℕ) → 0 ≡ suc n → ⊥
     apart n q = omega arith
 
 pub row-one : (b : Board) (p r : ℕ) → rowOf b p ≡ rowOf b r → onBoard b r ≡ true → p ≡ r
 unfolding rowOf rows onBoard
-row-one b p r e h = place-one (b .processors) p r e (ltb-true (placeIn (b .processors) r) (length (b .processors)) h)
+row-one b p r e h =
+    place-one (b .processors) p r e (ltb-true (placeOf (numbered r) (b .processors)) (length (b .processors)) h)
 
 -- a row is at most the number of rows, which stands for no row
-place-within : (xs : List Processor) (p : ℕ) → placeIn xs p ≤ length xs
-unfolding placeIn
-place-within [] p = omega arith
-place-within (x ∷ xs) p =
-    ⊎-elim (λ t. rw t (omega arith)) (λ f. rw f (let h = place-within xs p in omega arith)) (decide (eqb p (x .number)))
-
 pub row-within : (b : Board) (p : ℕ) → rowOf b p ≤ rows b
 unfolding rowOf rows
-row-within b p = place-within (b .processors) p
+row-within b p = place-within (numbered p) (b .processors)
+
+-- what every processor of a list passes, one that is in it does
+place-member : (test : ℕ → Bool) (xs : List Processor) (p : ℕ)
+    → allOf (λ (x : Processor). test (x .number)) xs ≡ true → placeOf (numbered p) xs < length xs → test p ≡ true
+unfolding allOf
+place-member test [] p every h = absurd (not-suc-le-zero h)
+place-member test (x ∷ xs) p every h =
+    let here = and-left (test (x .number)) (allOf (λ (y : Processor). test (y .number)) xs) every in
+    let later = and-right (test (x .number)) (allOf (λ (y : Processor). test (y .number)) xs) every in
+    ⊎-elim (λ t. subst (λ (n : ℕ). test n ≡ true) (sym (eqb-true p (x .number) t)) here)
+    (λ f.
+    place-member test xs p later (le-of-suc-le-suc (subst (λ (n : ℕ). n < suc (length xs)) (place-past (numbered p) x xs f) h)))
+    (decide (numbered p x))
+
+pub board-member : (b : Board) (test : ℕ → Bool) (p : ℕ)
+    → allOf (λ (x : Processor). test (x .number)) (b .processors) ≡ true → onBoard b p ≡ true → test p ≡ true
+unfolding onBoard rowOf rows
+board-member b test p every on =
+    place-member test (b .processors) p every (ltb-true (placeOf (numbered p) (b .processors)) (length (b .processors)) on)
+
+-- ---- the home of a control word (document 02, L4)
+
+-- the first processor of the cluster that the one at a row has stands there or before
+cluster-first : (xs : List Processor) (row c : ℕ) → getD (map (λ (x : Processor). x .cluster) xs) row 0 ≡ c → eqb c 0 ≡ false
+    → placeOf (λ (x : Processor). eqb c (x .cluster)) xs ≤ row
+cluster-first [] row c is some = clash (eq-eqb c 0 (sym is)) some
+cluster-first (x ∷ xs) zero c is some =
+    subst (λ (n : ℕ). n ≤ 0) (sym (place-head (λ (y : Processor). eqb c (y .cluster)) x xs (eq-eqb c (x .cluster) (sym is)))) (omega arith)
+cluster-first (x ∷ xs) (suc row) c is some =
+    let further = cluster-first xs row c is some in
+    let test : Processor → Bool = λ (y : Processor). eqb c (y .cluster) in
+    ⊎-elim (λ t. subst (λ (n : ℕ). n ≤ suc row) (sym (place-head test x xs t)) (omega arith))
+    (λ f. subst (λ (n : ℕ). n ≤ suc row) (sym (place-past test x xs f)) (omega (arith, further)))
+    (decide (test x))
+
+-- so a home is a row: the row itself, or one before it
+pub home-within : (b : Board) (row : ℕ) → homeAt b row ≤ row
+unfolding homeAt clusterAt
+home-within b row =
+    ⊎-elim (λ t. subst (λ (n : ℕ). n ≤ row) (sym (cond-true row first t)) (omega arith))
+    (λ f. subst (λ (n : ℕ). n ≤ row) (sym (cond-false row first f)) (cluster-first (b .processors) row (clusterAt b row) refl f))
+    (decide (eqb (clusterAt b row) 0))
+  where
+    first : ℕ
+    first = placeOf (λ (x : Processor). eqb (clusterAt b row) (x .cluster)) (b .processors)
+
+-- past the last row there is no cluster, and the home is the row that was asked for
+no-cluster : (xs : List Processor) (row : ℕ) → length xs ≤ row → getD (map (λ (x : Processor). x .cluster) xs) row 0 ≡ 0
+no-cluster [] row h = refl
+no-cluster (x ∷ xs) zero h = absurd (not-suc-le-zero h)
+no-cluster (x ∷ xs) (suc row) h = no-cluster xs row (le-of-suc-le-suc h)
+
+pub home-past : (b : Board) (row : ℕ) → rows b ≤ row → homeAt b row ≡ row
+unfolding homeAt clusterAt rows
+home-past b row h = cond-true row _ (eq-eqb (clusterAt b row) 0 (no-cluster (b .processors) row h))
 
 -- ---- the table of rows (document 02, L2)
 
@@ -63,17 +131,11 @@ row-within b p = place-within (b .processors) p
 pub table-rule : (b : Board) (table : List ℕ) → givesRows b table ≡ true → (p : ℕ) → p < 256 → getD table p 0 ≡ rowOf b p
 unfolding givesRows
 table-rule b table t p h =
-    eqb-true (getD table p 0) (rowOf b p)
-    (subst (λ (n : ℕ). right n (getD table p 0) ≡ true) (zero-add p) (allFrom-at right table 0 p 0 (and-right whole every t) within))
+    allFrom-gives (rowOf b) table p (and-right whole every t)
+    (subst (λ (n : ℕ). p < n) (sym (eqb-true (length table) 256 (and-left whole every t))) h)
   where
-    right : ℕ → ℕ → Bool
-    right q row = eqb row (rowOf b q)
-
     whole : Bool
     whole = eqb (length table) 256
 
     every : Bool
-    every = allFrom right 0 table
-
-    within : p < length table
-    within = subst (λ (n : ℕ). p < n) (sym (eqb-true (length table) 256 (and-left whole every t))) h
+    every = allFrom (λ (q row : ℕ). eqb row (rowOf b q)) 0 table

@@ -1,7 +1,7 @@
 -- Every state that calls left is sound: the fresh one is, and every call keeps it, whatever the call. On the way: what one call leaves
--- in the state, an offer once something was accepted, a message that is refused, and a store at one row. Assumes nothing.
+-- in the state, an offer once something was accepted, a message that is refused, and a store for one processor. Assumes nothing.
 use Prim.Native.Nat.{ℕ, zero, suc}
-use mathlib.Core.Path.{_≡_, refl, subst, subst⁻¹, _∙_, ap}
+use mathlib.Core.Path.{_≡_, refl, subst, subst⁻¹, _∙_, ap, ap₂}
 use mathlib.Core.Bool.{Bool, true, false}
 use mathlib.Core.List.{List, [], _∷_}
 use mathlib.Core.Logic.{⊎-elim}
@@ -11,12 +11,12 @@ use lib.Dec.{eqb, ltb}
 use borrow.Author.Tests.{eqb-true, eqb-false, ltb-true, ltb-false}
 use Rattle.rules.specs.declared.Record.{Record}
 use Rattle.rules.specs.Table.{firstOf}
-use Rattle.rules.specs.Board.{Board, rows, rowOf}
+use Rattle.rules.specs.Board.{Board, rows, rowOf, homeAt, homeOf, shareControl}
 use Rattle.rules.specs.AccessList.{noEntry, listTable, verdictOf, accepted}
 use Rattle.rules.specs.Message.{Query, subjectOf}
-use Rattle.rules.specs.Outcome.{isFree, outcomeOf, carriedOut}
+use Rattle.rules.specs.Outcome.{outcomeOf, carriedOut}
 use Rattle.rules.specs.Effect.{recordAfter}
-use Rattle.rules.specs.State.{listed, listIn, State, freeRecord, fresh, entryOf, recordOf, viewOf, stored}
+use Rattle.rules.specs.State.{listed, listIn, Own, State, ownOf, joined, freeOwn, fresh, entryOf, recordIn, recordOf, viewOf, putIn, stored}
 use Rattle.rules.specs.Call.{Offer, list, verdictTo, taken, afterOffer, afterMessage, queryOf, Call, offer, message, next}
 use Rattle.rules.specs.Sequence.{run, permittedFor, freeOrPermitted, Sound}
 use Rattle.rules.proofs.Tests.{decide, clash, or-left, cond-true, cond-false}
@@ -48,11 +48,13 @@ first-accepted s o ok =
 
 -- a message that is refused leaves the state
 pub message-refused : (s : State) (q : Query) → carriedOut (outcomeOf (viewOf s (subjectOf q)) q) ≡ false → afterMessage s q ≡ s
-unfolding afterMessage stored viewOf recordOf
+unfolding afterMessage stored putIn viewOf recordOf recordIn
 message-refused s q refused =
+    let b = s .setup .board in
     ap (λ (r : Record). stored s (subjectOf q) r) (refusal-keeps (viewOf s (subjectOf q)) q refused)
-    ∙ ap (λ (rs : List Record). record { setup = s .setup; records = rs })
-    (set-getD (s .records) (rowOf (s .setup .board) (subjectOf q)) freeRecord)
+    ∙ ap₂ (λ (os : List Own) (words : List ℕ). record { setup = s .setup; records = record { own = os; controls = words } })
+    (set-getD (s .records .own) (rowOf b (subjectOf q)) freeOwn)
+    (set-getD (s .records .controls) (homeAt b (rowOf b (subjectOf q))) 0)
 
 -- with no list accepted it is
 pub message-unlisted : (s : State) (q : Query) → listed (s .setup .source) ≡ false → afterMessage s q ≡ s
@@ -61,59 +63,70 @@ message-unlisted s q e =
     ⊎-elim (λ ok. clash (allowed (viewOf s (subjectOf q)) q ok .listed) e) (λ refused. message-refused s q refused)
     (decide (carriedOut (outcomeOf (viewOf s (subjectOf q)) q)))
 
--- a record put at another row leaves p's
-pub stored-other : (s : State) (x : ℕ) (r : Record) (p : ℕ) → eqb (rowOf (s .setup .board) p) (rowOf (s .setup .board) x) ≡ false
-    → recordOf (stored s x r) p ≡ recordOf s p
-unfolding recordOf stored
-stored-other s x r p apart =
-    getD-set-other (s .records) (rowOf (s .setup .board) x) (rowOf (s .setup .board) p) r freeRecord
-    (eqb-false (rowOf (s .setup .board) p) (rowOf (s .setup .board) x) apart)
+-- a record stored for x keeps what is p's own where their rows differ, and p's control word where they share none
+module _ (s : State) (x : ℕ) (r : Record) (p : ℕ) where
+  own-other : eqb (rowOf (s .setup .board) p) (rowOf (s .setup .board) x) ≡ false
+      → getD (stored s x r .records .own) (rowOf (s .setup .board) p) freeOwn ≡ getD (s .records .own) (rowOf (s .setup .board) p) freeOwn
+  unfolding stored putIn
+  own-other apart =
+      getD-set-other (s .records .own) (rowOf (s .setup .board) x) (rowOf (s .setup .board) p) (ownOf r) freeOwn
+      (eqb-false (rowOf (s .setup .board) p) (rowOf (s .setup .board) x) apart)
 
--- every row that was held by a permitted host or by none still is
+  pub stored-other : eqb (rowOf (s .setup .board) p) (rowOf (s .setup .board) x) ≡ false → shareControl (s .setup .board) p x ≡ false
+      → recordOf (stored s x r) p ≡ recordOf s p
+  unfolding recordOf recordIn stored putIn shareControl homeOf
+  stored-other apart unshared =
+      ap₂ joined (own-other apart)
+      (getD-set-other (s .records .controls) (homeOf (s .setup .board) x) (homeOf (s .setup .board) p) (r .control) 0
+      (eqb-false (homeOf (s .setup .board) p) (homeOf (s .setup .board) x) unshared))
+
+-- every processor that was held by a permitted host or by none still is
 held-after : (s : State) (q : Query) (p : ℕ) → freeOrPermitted (s .setup) p (recordOf s p) ≡ true
     → freeOrPermitted (s .setup) p (recordOf (afterMessage s q) p) ≡ true
-unfolding freeOrPermitted permittedFor entryOf recordOf afterMessage stored viewOf
+unfolding freeOrPermitted permittedFor entryOf recordOf recordIn afterMessage stored putIn viewOf
 held-after s q p held =
     let b = s .setup .board in
     let x = subjectOf q in
+    let os = s .records .own in
     let after = recordAfter (viewOf s x) q in
     ⊎-elim
     (λ same.
     let row : rowOf b p ≡ rowOf b x = eqb-true (rowOf b p) (rowOf b x) same in
-    let there : soundly b (getD (s .setup .entries) (rowOf b x) noEntry) (getD (s .records) (rowOf b x) freeRecord) ≡ true =
-    subst (λ (i : ℕ). soundly b (getD (s .setup .entries) i noEntry) (getD (s .records) i freeRecord) ≡ true) row held
+    let there : soundly b (getD (s .setup .entries) (rowOf b x) noEntry) (joined (getD os (rowOf b x) freeOwn) 0) ≡ true =
+    subst (λ (i : ℕ). soundly b (getD (s .setup .entries) i noEntry) (joined (getD os i freeOwn) 0) ≡ true) row held
     in
     ⊎-elim
     (λ inside.
-    subst⁻¹ (λ (i : ℕ). soundly b (getD (s .setup .entries) i noEntry) (getD (set (s .records) (rowOf b x) after) i freeRecord) ≡ true) row
-    (subst⁻¹ (λ (r : Record). soundly b (getD (s .setup .entries) (rowOf b x) noEntry) r ≡ true)
-    (getD-set-same (s .records) (rowOf b x) after freeRecord (ltb-true _ _ inside))
+    subst⁻¹ (λ (i : ℕ). soundly b (getD (s .setup .entries) i noEntry) (joined (getD (set os (rowOf b x) (ownOf after)) i freeOwn) 0) ≡ true) row
+    (subst⁻¹ (λ (o : Own). soundly b (getD (s .setup .entries) (rowOf b x) noEntry) (joined o 0) ≡ true)
+    (getD-set-same os (rowOf b x) (ownOf after) freeOwn (ltb-true _ _ inside))
     (after-sound (viewOf s x) q there)))
     (λ outside.
-    subst⁻¹ (λ (rs : List Record). soundly b (getD (s .setup .entries) (rowOf b p) noEntry) (getD rs (rowOf b p) freeRecord) ≡ true)
-    (set-out (s .records) (rowOf b x) after (ltb-false _ _ outside)) held)
-    (decide (ltb (rowOf b x) (length (s .records)))))
+    subst⁻¹ (λ (l : List Own). soundly b (getD (s .setup .entries) (rowOf b p) noEntry) (joined (getD l (rowOf b p) freeOwn) 0) ≡ true)
+    (set-out os (rowOf b x) (ownOf after) (ltb-false _ _ outside)) held)
+    (decide (ltb (rowOf b x) (length os))))
     (λ apart.
-    subst⁻¹ (λ (r : Record). soundly b (getD (s .setup .entries) (rowOf b p) noEntry) r ≡ true) (stored-other s x after p apart) held)
+    subst⁻¹ (λ (o : Own). soundly b (getD (s .setup .entries) (rowOf b p) noEntry) (joined o 0) ≡ true) (own-other s x after p apart) held)
     (decide (eqb (rowOf b p) (rowOf b x)))
 
 -- ---- the invariant
 
 -- a fresh manager's records are free at every row
-free-at : (n i : ℕ) → getD (replicate n freeRecord) i freeRecord ≡ freeRecord
-free-at zero i = refl
-free-at (suc n) zero = refl
-free-at (suc n) (suc i) = free-at n i
+same-at : {A : Type 0} (a : A) (n i : ℕ) → getD (replicate n a) i a ≡ a
+same-at a zero i = refl
+same-at a (suc n) zero = refl
+same-at a (suc n) (suc i) = same-at a n i
 
-fresh-free : (b : Board) (i : ℕ) → isFree (getD (fresh b .records) i freeRecord) ≡ true
-unfolding fresh freeRecord
-fresh-free b i = ap isFree (free-at (rows b) i)
+fresh-free : (b : Board) (i : ℕ) → eqb (getD (fresh b .records .own) i freeOwn .controller) 0 ≡ true
+unfolding fresh freeOwn
+fresh-free b i = ap (λ (o : Own). eqb (o .controller) 0) (same-at freeOwn (rows b) i)
 
 pub sound-fresh : (b : Board) → Sound (fresh b)
-unfolding fresh listed freeOrPermitted recordOf
+unfolding fresh listed freeOrPermitted recordOf recordIn
 sound-fresh b =
     record {
-      rows-there = length-replicate (rows b) freeRecord;
+      rows-there = length-replicate (rows b) freeOwn;
+      homes-there = length-replicate (rows b) 0;
       none-fresh = λ e. refl;
       list-good = λ t. clash {x = false} t refl;
       entries-its = λ t. clash {x = false} t refl;
@@ -122,19 +135,20 @@ sound-fresh b =
 
 -- what an accepted offer sets, in a state that was fresh
 sound-taken : (s : State) → Sound s → (o : Offer) → accepted (verdictTo s o) ≡ true → Sound (taken s o)
-unfolding verdictTo taken listed listIn freeOrPermitted recordOf
+unfolding verdictTo taken listed listIn freeOrPermitted recordOf recordIn
 sound-taken s sound (list bytes) ok =
     let none = first-accepted s (list bytes) ok in
     let was : s ≡ fresh (s .setup .board) = sound .none-fresh none in
     record {
       rows-there = sound .rows-there;
+      homes-there = sound .homes-there;
       none-fresh = λ e. clash {x = true} refl e;
       list-good = λ t. subst (λ (x : Bool). accepted (verdictOf (s .setup .board) x bytes) ≡ true) none ok;
       entries-its = λ t. refl;
       holder-permitted =
           λ p.
           or-left _
-          (ap (λ (t : State). isFree (getD (t .records) (rowOf (s .setup .board) p) freeRecord)) was
+          (ap (λ (t : State). eqb (getD (t .records .own) (rowOf (s .setup .board) p) freeOwn .controller) 0) was
           ∙ fresh-free (s .setup .board) (rowOf (s .setup .board) p));
     }
 
@@ -146,10 +160,11 @@ sound-offer s sound o =
     (decide (accepted (verdictTo s o)))
 
 sound-message : (s : State) → Sound s → (q : Query) → Sound (afterMessage s q)
-unfolding afterMessage stored
+unfolding afterMessage stored putIn
 sound-message s sound q =
     record {
-      rows-there = length-set (s .records) (rowOf (s .setup .board) (subjectOf q)) _ ∙ sound .rows-there;
+      rows-there = length-set (s .records .own) (rowOf (s .setup .board) (subjectOf q)) _ ∙ sound .rows-there;
+      homes-there = length-set (s .records .controls) (homeAt (s .setup .board) (rowOf (s .setup .board) (subjectOf q))) _ ∙ sound .homes-there;
       none-fresh = λ e. message-unlisted s q e ∙ sound .none-fresh e;
       list-good = sound .list-good;
       entries-its = sound .entries-its;

@@ -1,6 +1,6 @@
 -- Laws of tests, of tables and of searches, for any type. Assumes nothing.
 use Prim.Native.Nat.{ℕ, zero, suc, pred, _+_, _<_}
-use native.Mathlib.Nat.{add-zero, add-suc, suc-add, le-of-suc-le-suc, not-suc-le-zero}
+use native.Mathlib.Nat.{add-zero, zero-add, add-suc, suc-add, le-of-suc-le-suc, not-suc-le-zero}
 use native.Mathlib.Omega.{arith}
 use mathlib.Core.Path.{_≡_, refl, sym, subst, _∙_, ap}
 use mathlib.Core.Bool.{Bool, true, false, cond, _&&_, _||_, true≢false}
@@ -115,6 +115,13 @@ allFrom-at test (x ∷ xs) i zero d t h =
 allFrom-at test (x ∷ xs) i (suc k) d t h =
     subst (λ (n : ℕ). test n (getD xs k d) ≡ true) (suc-add i k ∙ sym (add-suc i k))
     (allFrom-at test xs (suc i) k d (and-right (test i x) (allFrom test (suc i) xs) t) (le-of-suc-le-suc h))
+
+-- so a table that gives f at each of its places gives it at k
+pub allFrom-gives : (f : ℕ → ℕ) (table : List ℕ) (k : ℕ)
+    → allFrom (λ (i x : ℕ). eqb x (f i)) 0 table ≡ true → k < length table → getD table k 0 ≡ f k
+allFrom-gives f table k t h =
+    eqb-true (getD table k 0) (f k)
+    (subst (λ (n : ℕ). eqb (getD table k 0) (f n) ≡ true) (zero-add k) (allFrom-at (λ (i x : ℕ). eqb x (f i)) table 0 k 0 t h))
 
 -- ---- stores
 

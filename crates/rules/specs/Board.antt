@@ -1,11 +1,11 @@
--- "Our board": hosts, secure or not; processors with their classes and rows; the flag bits that may be named. The rules are written
--- over a board, and `ours` is document 01's. Assumes nothing.
-use Prim.Native.Nat.{ℕ, suc}
+-- "Our board": hosts, secure or not; processors with their classes, clusters and rows; the row where a control word is kept; the flag
+-- bits that may be named. The rules are written over a board, and `ours` is document 01's with document 02's cluster. Assumes nothing.
+use Prim.Native.Nat.{ℕ}
 use mathlib.Core.Bool.{Bool, true, false, cond, not, _&&_, _||_}
 use mathlib.Core.List.{List, [], _∷_, map}
 use lib.ListN.{length, getD}
 use lib.Dec.{eqb, ltb}
-use Rattle.rules.specs.Table.{anyOf, allFrom}
+use Rattle.rules.specs.Table.{anyOf, placeOf, allFrom}
 
 pub record Host : Type 0 where
   pub number : ℕ
@@ -14,6 +14,8 @@ pub record Host : Type 0 where
 pub record Processor : Type 0 where
   pub number : ℕ
   pub class : ℕ
+  -- the number of its cluster, 0 for a processor that is alone
+  pub cluster : ℕ
 
 -- host 0, the management firmware, is on every board and is not listed
 pub record Board : Type 0 where
@@ -27,7 +29,7 @@ r5 = 0
 abbrev pub armv8 : ℕ
 armv8 = 1
 
--- document 01's board
+-- document 01's board; of document 02, L4, that "processors 32 and 33 form one cluster" and "the R5 cores stay single"
 unfoldable pub ours : Board
 ours =
     record {
@@ -41,10 +43,10 @@ ours =
           ∷ record { number = 13; secure = false }
           ∷ [];
       processors =
-          record { number = 1; class = r5 }
-          ∷ record { number = 2; class = r5 }
-          ∷ record { number = 32; class = armv8 }
-          ∷ record { number = 33; class = armv8 }
+          record { number = 1; class = r5; cluster = 0 }
+          ∷ record { number = 2; class = r5; cluster = 0 }
+          ∷ record { number = 32; class = armv8; cluster = 1 }
+          ∷ record { number = 33; class = armv8; cluster = 1 }
           ∷ [];
     }
 
@@ -56,18 +58,13 @@ boardHost b h = eqb h 0 || anyOf (λ (x : Host). eqb h (x .number)) (b .hosts)
 unfoldable pub activeHost : Board → ℕ → Bool
 activeHost b h = not (eqb h 0) && boardHost b h
 
--- the place of processor p in a list, or the list's length where p is not in it
-unfoldable pub placeIn : List Processor → ℕ → ℕ
-placeIn [] p = 0
-placeIn (x ∷ xs) p = cond (eqb p (x .number)) 0 (suc (placeIn xs p))
-
 -- how many rows there are: one for each processor
 unfoldable pub rows : Board → ℕ
 rows b = length (b .processors)
 
 -- the row of processor p, or the number of rows, which is the mark for none
 unfoldable pub rowOf : Board → ℕ → ℕ
-rowOf b p = placeIn (b .processors) p
+rowOf b p = placeOf (λ (x : Processor). eqb p (x .number)) (b .processors)
 
 -- document 02, L2: "a table of 256 numbers that gives the row of each processor byte, or a mark for none"; a test over the whole table
 unfoldable pub givesRows : Board → List ℕ → Bool
@@ -84,6 +81,24 @@ classAt b row = getD (map (λ (x : Processor). x .class) (b .processors)) row r5
 -- the class of processor p
 unfoldable pub classOf : Board → ℕ → ℕ
 classOf b p = classAt b (rowOf b p)
+
+-- the cluster of the processor at a row, 0 for none
+unfoldable pub clusterAt : Board → ℕ → ℕ
+clusterAt b row = getD (map (λ (x : Processor). x .cluster) (b .processors)) row 0
+
+-- document 02, L4: the processors of a cluster have one control word. It is kept at the row of the cluster's first processor, their home;
+-- the home of a processor that is alone is its own row
+unfoldable pub homeAt : Board → ℕ → ℕ
+homeAt b row =
+    cond (eqb (clusterAt b row) 0) row (placeOf (λ (x : Processor). eqb (clusterAt b row) (x .cluster)) (b .processors))
+
+-- the home of the control word of processor p
+unfoldable pub homeOf : Board → ℕ → ℕ
+homeOf b p = homeAt b (rowOf b p)
+
+-- which processors share a control word: those with one home
+unfoldable pub shareControl : Board → ℕ → ℕ → Bool
+shareControl b p r = eqb (homeOf b p) (homeOf b r)
 
 -- the words of a record that hold flags, as places in a row of the table of flag bits
 abbrev pub configWord : ℕ

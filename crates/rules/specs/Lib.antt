@@ -14,3 +14,4 @@ pub mod State
 pub mod Call
 pub mod Sequence
 pub mod Bench
+pub mod Cluster

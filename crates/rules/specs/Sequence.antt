@@ -26,8 +26,9 @@ freeOrPermitted setup p r = isFree r || permittedFor setup p (r .controller)
 
 -- the invariant of every state that calls left, whatever the calls
 pub record Sound (s : State) : Type 0 where
-  -- there is a record for each processor
-  pub rows-there : length (s .records) ≡ rows (s .setup .board)
+  -- there is a record for each processor, and a place for each control word
+  pub rows-there : length (s .records .own) ≡ rows (s .setup .board)
+  pub homes-there : length (s .records .controls) ≡ rows (s .setup .board)
   -- with no list accepted the state is fresh
   pub none-fresh : listed (s .setup .source) ≡ false → s ≡ fresh (s .setup .board)
   -- a list that is in force is one that the table accepts

@@ -1,11 +1,11 @@
--- The state: what was accepted and what stands since then ("Access list"), and each processor's record ("Our board"). A message call
--- sees a `View` of it. Assumes nothing.
+-- The state: what was accepted and what stands since then ("Access list"), and each processor's record ("Our board"), of which the control
+-- word may be a cluster's (document 02, L4). A message call sees a `View` of it. Assumes nothing.
 use Prim.Native.Nat.{ℕ}
 use mathlib.Core.Bool.{Bool, true, false}
 use mathlib.Core.List.{List, []}
 use lib.ListN.{getD, set, replicate}
 use Rattle.rules.specs.declared.Record.{Record}
-use Rattle.rules.specs.Board.{Board, rows, rowOf}
+use Rattle.rules.specs.Board.{Board, rows, rowOf, homeAt}
 use Rattle.rules.specs.AccessList.{Entry, noEntry, noEntries}
 use Rattle.rules.specs.Outcome.{View}
 
@@ -30,28 +30,52 @@ pub record Setup : Type 0 where
   pub source : Source
   pub entries : List Entry
 
--- the set-up, and the records by row
+-- what a processor has of its own: all of its record but the control word
+pub record Own : Type 0 where
+  pub controller : ℕ
+  pub low : ℕ
+  pub high : ℕ
+  pub config : ℕ
+
+-- the records as they are kept: by row what is each processor's own, and by home the control words, each once
+pub record Records : Type 0 where
+  pub own : List Own
+  pub controls : List ℕ
+
+-- the set-up, and the records
 pub record State : Type 0 where
   pub setup : Setup
-  pub records : List Record
+  pub records : Records
+
+-- a record taken apart, and put together
+abbrev pub ownOf : Record → Own
+ownOf r = record { controller = r .controller; low = r .low; high = r .high; config = r .config }
+
+abbrev pub joined : Own → ℕ → Record
+joined own control =
+    record { controller = own .controller; low = own .low; high = own .high; config = own .config; control = control }
 
 -- free and zero
-unfoldable pub freeRecord : Record
-freeRecord = record { controller = 0; low = 0; high = 0; config = 0; control = 0 }
+unfoldable pub freeOwn : Own
+freeOwn = record { controller = 0; low = 0; high = 0; config = 0 }
 
 -- all start free and zero, and no list is accepted
 unfoldable pub fresh : Board → State
 fresh b =
     record {
       setup = record { board = b; source = nothing; entries = noEntries b };
-      records = replicate (rows b) freeRecord;
+      records = record { own = replicate (rows b) freeOwn; controls = replicate (rows b) 0 };
     }
 
 unfoldable pub entryOf : Setup → ℕ → Entry
 entryOf setup p = getD (setup .entries) (rowOf (setup .board) p) noEntry
 
+-- the record of the processor at a row, as a status shows it: what is its own, and the control word at its home
+unfoldable pub recordIn : Board → Records → ℕ → Record
+recordIn b rs row = joined (getD (rs .own) row freeOwn) (getD (rs .controls) (homeAt b row) 0)
+
 unfoldable pub recordOf : State → ℕ → Record
-recordOf s p = getD (s .records) (rowOf (s .setup .board) p) freeRecord
+recordOf s p = recordIn (s .setup .board) (s .records) (rowOf (s .setup .board) p)
 
 -- what a message about processor p sees
 unfoldable pub viewOf : State → ℕ → View
@@ -63,6 +87,12 @@ viewOf s p =
       state = recordOf s p;
     }
 
--- a record put at the row of processor p: the only store
+-- a record put where that of the processor at a row is kept, the control word at its home
+unfoldable pub putIn : Board → Records → ℕ → Record → Records
+putIn b rs row r =
+    record { own = set (rs .own) row (ownOf r); controls = set (rs .controls) (homeAt b row) (r .control) }
+
+-- and of processor p: the only store
 unfoldable pub stored : State → ℕ → Record → State
-stored s p r = record { setup = s .setup; records = set (s .records) (rowOf (s .setup .board) p) r }
+stored s p r =
+    record { setup = s .setup; records = putIn (s .setup .board) (s .records) (rowOf (s .setup .board) p) r }

@@ -19,6 +19,11 @@ unfoldable pub anyOf : {A : Type 0} → (A → Bool) → List A → Bool
 anyOf test [] = false
 anyOf test (x ∷ xs) = test x || anyOf test xs
 
+-- the place of the first element that passes the test, or the list's length where none does
+unfoldable pub placeOf : {A : Type 0} → (A → Bool) → List A → ℕ
+placeOf test [] = 0
+placeOf test (x ∷ xs) = cond (test x) 0 (suc (placeOf test xs))
+
 -- every element passes the test
 unfoldable pub allOf : {A : Type 0} → (A → Bool) → List A → Bool
 allOf test [] = true

@@ -4,14 +4,13 @@ use Prim.Native.Nat.{ℕ}
 use mathlib.Core.Path.{_≡_, refl, sym, ap, _∙_}
 use mathlib.Core.Bool.{Bool}
 use mathlib.Core.Logic.{⊎-elim}
-use lib.ListN.{set}
 use Rattle.rules.specs.Board.{rowOf}
 use Rattle.rules.specs.AccessList.{verdictOf, accepted}
 use Rattle.rules.specs.Message.{Query, subjectOf}
 use Rattle.rules.specs.Outcome.{View}
 use Rattle.rules.specs.Effect.{recordAfter}
 use Rattle.rules.specs.Answer.{reportOf, answerOf}
-use Rattle.rules.specs.State.{listed, State, entryOf, recordOf, viewOf, stored}
+use Rattle.rules.specs.State.{listed, State, entryOf, recordOf, viewOf, putIn, stored}
 use Rattle.rules.specs.Call.{Offer, list, verdictTo, taken, afterOffer, afterMessage, answerTo}
 use Rattle.rules.proofs.Tests.{decide, cond-true, cond-false}
 use Rattle.access.specs.Memory.{someList, keptSetup}
@@ -44,7 +43,7 @@ message-kept s q =
     (λ (v : View).
     record {
       setup = keptSetup (s .setup);
-      records = set (s .records) (rowOf (s .setup .board) (subjectOf q)) (recordAfter v q);
+      records = putIn (s .setup .board) (s .records) (rowOf (s .setup .board) (subjectOf q)) (recordAfter v q);
     })
     (view-kept s (subjectOf q))
 

@@ -6,16 +6,17 @@ use mathlib.Core.List.{List, [], _∷_, _++_}
 use lib.ListN.{replicate}
 use Rattle.rules.specs.declared.Outcome.the-variants.{Ok}
 use Rattle.rules.specs.declared.Verdict.the-variants.{Accepted}
-use Rattle.rules.specs.Table.{firstOf, anyOf, allOf}
-use Rattle.rules.specs.Board.{ours, boardHost, activeHost, placeIn, rows, rowOf, onBoard, classAt, classOf}
+use Rattle.rules.specs.Table.{firstOf, anyOf, allOf, placeOf}
+use Rattle.rules.specs.Board.{ours, boardHost, activeHost, rows, rowOf, onBoard, classAt, classOf, clusterAt, homeAt, homeOf, shareControl}
 use Rattle.rules.specs.AccessList.{noEntry, partsFrom, namedIn, entryTable, entriesTable, listTable, verdictOf, accepted, entryIn, withPart, withParts, noEntries, entriesOf, hasEntry, isMaster, isSecondary, permitted}
 use Rattle.rules.specs.Message.{answerAsked, kindOf, waitIn, subjectOf}
 use Rattle.rules.specs.Outcome.{senderWrong, wordsMissing, waitFailed, admission, byWords, outcomeTable, outcomeOf, carriedOut, silent}
 use Rattle.rules.specs.Effect.{recordAfter}
 use Rattle.rules.specs.Answer.{ackBytes, bytesFor, answerBytes, answerOf, waited, reportOf}
-use Rattle.rules.specs.State.{listed, freeRecord, entryOf, recordOf, viewOf, stored}
+use Rattle.rules.specs.State.{listed, freeOwn, entryOf, recordIn, recordOf, viewOf, putIn, stored}
 use Rattle.rules.specs.Call.{afterMessage, answerTo, Lent, next}
 use Rattle.rules.specs.Bench.{benchList, header}
+use Rattle.noninterference.specs.Statement.{clustersWhole}
 use Rattle.access.specs.Memory.{byRow, listedIn, entryAt, entriesIn, someList, setupIn}
 use Rattle.loading.specs.Loaded.{wordsOf, accessAfter}
 use Rattle.records.specs.Memory.{recordsIn, stateIn}
@@ -33,7 +34,7 @@ abbrev listed-memories : Memories
 listed-memories = record { access = accessAfter (replicate 17 0) benchList; records = replicate 20 0 }
 
 pub bench-loaded : Loaded benchList listed-memories
-unfolding Meets beforeOf firstOf anyOf ours boardHost activeHost placeIn rows rowOf onBoard partsFrom namedIn entryTable entriesTable listTable verdictOf listedIn
+unfolding Meets beforeOf firstOf anyOf ours boardHost activeHost placeOf rows rowOf onBoard partsFrom namedIn entryTable entriesTable listTable verdictOf listedIn
 bench-loaded =
     record {
       earlier = [];
@@ -55,9 +56,9 @@ request-step =
     (header 0x00 0xC0 3 2 ++ replicate 21 0xFF)
 
 pub bench-trace : Trace listed-memories (request-step ∷ [])
-unfolding Meets beforeOf firstOf anyOf ours boardHost activeHost placeIn rows rowOf onBoard classAt classOf noEntry partsFrom namedIn entryTable entriesTable listTable verdictOf accepted entryIn withPart withParts noEntries entriesOf hasEntry isMaster isSecondary permitted answerAsked kindOf waitIn subjectOf senderWrong wordsMissing waitFailed admission byWords outcomeTable outcomeOf carriedOut silent recordAfter ackBytes bytesFor answerBytes answerOf waited reportOf listed freeRecord entryOf recordOf viewOf stored afterMessage answerTo next byRow listedIn entryAt entriesIn someList setupIn wordsOf accessAfter recordsIn stateIn
+unfolding Meets beforeOf firstOf anyOf ours boardHost activeHost placeOf rows rowOf onBoard classAt classOf clusterAt homeAt noEntry partsFrom namedIn entryTable entriesTable listTable verdictOf accepted entryIn withPart withParts noEntries entriesOf hasEntry isMaster isSecondary permitted answerAsked kindOf waitIn subjectOf senderWrong wordsMissing waitFailed admission byWords outcomeTable outcomeOf carriedOut silent recordAfter ackBytes bytesFor answerBytes answerOf waited reportOf listed freeOwn entryOf recordIn recordOf viewOf putIn stored afterMessage answerTo next byRow listedIn entryAt entriesIn someList setupIn wordsOf accessAfter recordsIn stateIn
 bench-trace = step {x = request-step} refl (record { report = refl; records = refl; buffer = refl }, refl) done
 
 pub on-the-bench : CodeNoninterference benchList bothR5
-unfolding firstOf anyOf allOf partsFrom namedIn
-on-the-bench = of-the-code benchList bothR5 refl
+unfolding anyOf allOf ours placeOf rowOf clusterAt homeAt homeOf shareControl partsFrom namedIn clustersWhole
+on-the-bench = of-the-code benchList bothR5 refl refl

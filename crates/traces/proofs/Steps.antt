@@ -5,10 +5,9 @@ use mathlib.Core.Bool.{cond}
 use mathlib.Core.List.{List, [], _∷_, _++_}
 use lib.ListN.{length, take, drop}
 use lib.Seq.{take-append-seam}
-use Rattle.rules.specs.declared.Record.{Record}
 use Rattle.rules.specs.declared.Report.{Report}
 use Rattle.rules.specs.Answer.{reportOf}
-use Rattle.rules.specs.State.{Setup, State, stored}
+use Rattle.rules.specs.State.{Setup, Records, State, stored}
 use Rattle.rules.specs.Call.{list, afterMessage, Answer, answerTo, Lent, queryOf, offer, message, next}
 use Rattle.rules.specs.Sequence.{run}
 use Rattle.noninterference.specs.Statement.{picked, answers}
@@ -40,7 +39,7 @@ module _ (s : State) (before after : Memories) (holds : Holds before s) where
     message-holds : after .access ≡ before .access → Holds after (next s (message lent))
     unfolding next afterMessage stored stateIn
     message-holds same =
-        ap₂ (λ (u : Setup) (rs : List Record). record { setup = u; records = rs }) (ap setupIn same) (meets .records)
+        ap₂ (λ (u : Setup) (rs : Records). record { setup = u; records = rs }) (ap setupIn same) (meets .records)
         ∙ ap (λ (t : State). next t (message lent)) holds
         ∙ message-kept s (queryOf lent)
 

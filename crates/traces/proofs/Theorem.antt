@@ -1,29 +1,31 @@
 -- Demand 3 of the code: traces of calls that meet the contracts of crate manager have it, since their memories hold the states of the
 -- rules, of which crate noninterference shows it. Assumes nothing.
-use Prim.Native.Nat.{ℕ}
-use mathlib.Core.Path.{_≡_, refl, sym, ap, _∙_}
+use Prim.Native.Nat.{ℕ, _<_}
+use mathlib.Core.Path.{_≡_, refl, sym, ap, ap₂, _∙_}
 use mathlib.Core.Bool.{true, false}
 use mathlib.Core.List.{List, [], _∷_}
-use native.Mathlib.Nat.{zero-add}
+use native.Mathlib.Nat.{zero-add, lt-of-le-of-lt}
+use lib.ListN.{getD}
 use lib.Dec.{eqb}
 use borrow.Author.Tests.{ltb-true}
 use Rattle.rules.specs.declared.Report.{Report}
 use Rattle.rules.specs.declared.Verdict.the-variants.{Accepted}
 use Rattle.rules.specs.Table.{anyOf, allOf}
-use Rattle.rules.specs.Board.{ours, rows, rowOf, onBoard}
+use Rattle.rules.specs.Board.{ours, rows, rowOf, onBoard, homeAt}
 use Rattle.rules.specs.AccessList.{parts, namedIn, verdictOf, accepted}
 use Rattle.rules.specs.Outcome.{carriedOut}
-use Rattle.rules.specs.State.{listed, State, freeRecord, fresh, recordOf}
+use Rattle.rules.specs.State.{listed, State, joined, freeOwn, fresh, recordIn, recordOf}
 use Rattle.rules.specs.Call.{list, verdictTo, afterOffer, Answer, answerTo, Lent, queryOf, next}
 use Rattle.rules.specs.Sequence.{run, freeOrPermitted}
 use Rattle.rules.proofs.Tests.{allOf-member}
+use Rattle.rules.proofs.Rows.{home-within}
 use Rattle.rules.proofs.Entries.{named-on}
 use Rattle.rules.proofs.Sound.{first-accepted}
-use Rattle.noninterference.specs.Statement.{answers, Noninterference}
+use Rattle.noninterference.specs.Statement.{clustersWhole, answers, Noninterference}
 use Rattle.noninterference.proofs.Theorem.{freshly-loaded, no-trace}
-use Rattle.access.specs.Memory.{someList, setupIn, keptSetup}
+use Rattle.access.specs.Memory.{byRow, someList, setupIn, keptSetup}
 use Rattle.loading.proofs.Offers.{verdict-told}
-use Rattle.records.specs.Memory.{recordAt, recordsIn, stateIn, kept}
+use Rattle.records.specs.Memory.{ownAt, controlAt, recordAt, recordsIn, stateIn, kept}
 use Rattle.records.proofs.LentMemory.{byRow-at, zeros-fresh}
 use Rattle.manager.specs.Calls.{ListCall}
 use Rattle.traces.specs.Trace.{Memories, zeros, Step, listStep, messageStep, beforeOf, afterOf, callOf, Meets, Trace, step, endOf, callsOf, Loaded}
@@ -38,13 +40,18 @@ zeros-hold = zeros-fresh
 
 -- the record words of a processor on the board are its record in the state that the memories hold
 words-at : (m : Memories) (s : State) (p : ℕ) → Holds m s → onBoard ours p ≡ true → recordAt (m .records) (rowOf ours p) ≡ recordOf s p
-unfolding stateIn setupIn recordOf recordsIn onBoard
+unfolding stateIn setupIn recordOf recordIn recordsIn onBoard
 words-at m s p holds on =
     let row = rowOf ours p in
-    ap (recordAt (m .records)) (sym (zero-add row))
-    ∙ sym (byRow-at (recordAt (m .records)) freeRecord (rows ours) 0 row (ltb-true row (rows ours) on))
+    let inside = ltb-true row (rows ours) on in
+    ap₂ joined
+    (sym (byRow-here (ownAt (m .records)) freeOwn row inside))
+    (sym (byRow-here (controlAt (m .records)) 0 (homeAt ours row) (lt-of-le-of-lt (home-within ours row) inside)))
     ∙ ap (λ (t : State). recordOf t p) holds
     ∙ record-kept s p
+  where
+    byRow-here : {A : Type 0} (f : ℕ → A) (d : A) (i : ℕ) → i < rows ours → getD (byRow f 0 (rows ours)) i d ≡ f i
+    byRow-here f d i h = byRow-at f d (rows ours) 0 i h ∙ ap f (zero-add i)
 
 -- ---- memories in which a list has just been accepted
 
@@ -91,13 +98,13 @@ begun {bytes} {m} loaded =
 
 -- ---- the theorem
 
-module _ (bytes chosen : List ℕ) (named : allOf (namedIn (parts bytes)) chosen ≡ true) where
+module _ (bytes chosen : List ℕ) (named : allOf (namedIn (parts bytes)) chosen ≡ true) (whole : clustersWhole ours chosen ≡ true) where
   abbrev start : State
   start = afterOffer (fresh ours) (list bytes)
 
   module _ {m : Memories} (loaded : Loaded bytes m) where
     by-rules : Noninterference start chosen
-    by-rules = freshly-loaded ours bytes chosen (begun loaded .good) named
+    by-rules = freshly-loaded ours bytes chosen (begun loaded .good) named whole
 
     -- a chosen processor's record words are its record by the rules
     module _ {steps : List Step} (trace : Trace m steps) where
@@ -127,23 +134,23 @@ module _ (bytes chosen : List ℕ) (named : allOf (namedIn (parts bytes)) chosen
         ap (λ (a : Answer). a .report) (answer-told (run start (callsOf steps)) before after holds lent (meets .0))
 
 pub of-the-code : OfTheCode
-of-the-code bytes chosen named =
+of-the-code bytes chosen named whole =
     record {
       same-answers =
           λ {m} {n} one other {these} {those} t u same.
-          given-are bytes chosen named one t
-          ∙ by-rules bytes chosen named one .same-answers (callsOf these) (callsOf those) same
-          ∙ sym (given-are bytes chosen named other u);
+          given-are bytes chosen named whole one t
+          ∙ by-rules bytes chosen named whole one .same-answers (callsOf these) (callsOf those) same
+          ∙ sym (given-are bytes chosen named whole other u);
       same-records =
           λ {m} {n} one other {these} {those} t u same p chose.
-          words-are bytes chosen named one t p chose
-          ∙ by-rules bytes chosen named one .same-records (callsOf these) (callsOf those) same p chose
-          ∙ sym (words-are bytes chosen named other u p chose);
-      always-permitted = λ loaded trace p chose. permitted-are bytes chosen named loaded trace p chose;
+          words-are bytes chosen named whole one t p chose
+          ∙ by-rules bytes chosen named whole one .same-records (callsOf these) (callsOf those) same p chose
+          ∙ sym (words-are bytes chosen named whole other u p chose);
+      always-permitted = λ loaded trace p chose. permitted-are bytes chosen named whole loaded trace p chose;
       outsider-refused =
           λ loaded steps lent before after report held trace about out.
           let last = messageStep lent before after report held ∷ [] in
           ap (λ (r : Report). carriedOut (r .outcome))
-          (last-told bytes chosen named loaded steps lent before after report held (trace-first steps last trace) (trace-then steps last trace))
-          ∙ by-rules bytes chosen named loaded .outsider-refused (callsOf steps) (queryOf lent) about out;
+          (last-told bytes chosen named whole loaded steps lent before after report held (trace-first steps last trace) (trace-then steps last trace))
+          ∙ by-rules bytes chosen named whole loaded .outsider-refused (callsOf steps) (queryOf lent) about out;
     }

@@ -14,7 +14,7 @@ use Rattle.rules.specs.Outcome.{carriedOut}
 use Rattle.rules.specs.State.{Setup, fresh}
 use Rattle.rules.specs.Call.{list, afterOffer, Answer, Lent, queryOf}
 use Rattle.rules.specs.Sequence.{freeOrPermitted}
-use Rattle.noninterference.specs.Statement.{insider, aboutChosen, picked, picks}
+use Rattle.noninterference.specs.Statement.{clustersWhole, insider, aboutChosen, picked, picks}
 use Rattle.records.specs.Memory.{recordAt}
 use Rattle.traces.specs.Trace.{Memories, Step, listStep, messageStep, Trace, endOf, callsOf, Loaded}
 
@@ -39,7 +39,7 @@ pub record CodeNoninterference (bytes chosen : List ℕ) : Type 0 where
       → {these those : List Step} → Trace m these → Trace n those
       → picks (setupOf bytes) chosen (callsOf these) ≡ picks (setupOf bytes) chosen (callsOf those)
       → given (setupOf bytes) chosen these ≡ given (setupOf bytes) chosen those
-  -- and leave the chosen processors the same record words
+  -- and leave the chosen processors the same record words, a cluster's control word among them
   pub same-records :
       {m n : Memories} → Loaded bytes m → Loaded bytes n
       → {these those : List Step} → Trace m these → Trace n those
@@ -59,6 +59,10 @@ pub record CodeNoninterference (bytes chosen : List ℕ) : Type 0 where
       → insider (setupOf bytes) chosen (lent .channel) ≡ false
       → carriedOut (report .outcome) ≡ false
 
--- for every list, and any processors that used entries of it name
+-- for every list, and any processors that used entries of it name and that hold a cluster whole or not at all
 abbrev pub OfTheCode : Type 0
-OfTheCode = (bytes chosen : List ℕ) → allOf (namedIn (parts bytes)) chosen ≡ true → CodeNoninterference bytes chosen
+OfTheCode =
+    (bytes chosen : List ℕ)
+    → allOf (namedIn (parts bytes)) chosen ≡ true
+    → clustersWhole ours chosen ≡ true
+    → CodeNoninterference bytes chosen

@@ -2,8 +2,8 @@
 -- `table-rule` turns it into the rule at the byte that is read. Assumes nothing.
 use mathlib.Core.Path.{refl}
 use borrow.Author.Needs.{needs}
-use Rattle.rules.specs.Table.{allFrom}
-use Rattle.rules.specs.Board.{ours, placeIn, rowOf, givesRows}
+use Rattle.rules.specs.Table.{allFrom, placeOf}
+use Rattle.rules.specs.Board.{ours, rowOf, givesRows}
 use Rattle.rules.proofs.Rows.{table-rule}
 use Rattle.board.proofs.row_of.Statement.{statement}
 use Rattle.board.proofs.row_of.Tie as tie
@@ -13,7 +13,7 @@ array-read-result : tie.Need-array-read-result
 array-read-result c = search needs
 
 returns : tie.Need-returns
-unfolding givesRows allFrom rowOf placeIn ours
+unfolding givesRows allFrom rowOf placeOf ours
 returns c = rw (table-rule ours, refl, array-read-result c)
 
 pub row-of-spec : {M : Type 1} → statement M

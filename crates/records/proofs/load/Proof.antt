@@ -27,8 +27,8 @@ add-word-at-3 c = search needs
 word-at-requires-4 : tie.Need-word-at-requires-4
 word-at-requires-4 c κs = search needs
 
-add-word-at-4 : tie.Need-add-word-at-4
-add-word-at-4 c = search needs
+control-place-requires : tie.Need-control-place-requires
+control-place-requires c κs = search needs
 
 word-at-requires-5 : tie.Need-word-at-requires-5
 word-at-requires-5 c κs = search needs
@@ -36,11 +36,12 @@ word-at-requires-5 c κs = search needs
 returns : tie.Need-returns
 returns c =
     rw (
-      c .before .before .before .before .word-at .ensures,
-      c .before .before .before .word-at2 .ensures,
-      c .before .before .word-at3 .ensures,
-      c .before .word-at4 .ensures,
+      c .before .before .before .before .before .word-at .ensures,
+      c .before .before .before .before .word-at2 .ensures,
+      c .before .before .before .word-at3 .ensures,
+      c .before .before .word-at4 .ensures,
       c .word-at5 .ensures,
+      c .before .control-place .ensures .0,
     )
 
 pub load-spec : {M : Type 1} → statement M
@@ -55,6 +56,6 @@ load-spec =
     word-at-requires-3
     add-word-at-3
     word-at-requires-4
-    add-word-at-4
+    control-place-requires
     word-at-requires-5
     returns)

@@ -10,6 +10,9 @@ use Rattle.records.proofs.store.Tie as tie
 mul-at : tie.Need-mul-at
 mul-at c = search needs
 
+control-place-requires : tie.Need-control-place-requires
+control-place-requires c κs = search needs
+
 add-if1 : tie.Need-add-if1
 add-if1 c = search needs
 
@@ -46,9 +49,6 @@ mul-records-4 c = search needs
 slice-write-records-4 : tie.Need-slice-write-records-4
 slice-write-records-4 c = simp length-set (omega arith)
 
-add-records-4 : tie.Need-add-records-4
-add-records-4 c = search needs
-
 mul-records-5 : tie.Need-mul-records-5
 mul-records-5 c = search needs
 
@@ -60,7 +60,7 @@ same-length c = simp length-set
 
 returns : tie.Need-returns
 unfolding withRecord
-returns c = rw (lt-ltb _ _ (c .if1 .taken))
+returns c = rw (lt-ltb _ _ (c .if1 .taken), c .before .control-place .ensures .0)
 
 returns-2 : tie.Need-returns-2
 unfolding withRecord
@@ -71,6 +71,7 @@ store-spec =
     tie.close
     (tie.spec
     mul-at
+    control-place-requires
     add-if1
     mul-records
     slice-write-records
@@ -83,7 +84,6 @@ store-spec =
     add-records-3
     mul-records-4
     slice-write-records-4
-    add-records-4
     mul-records-5
     slice-write-records-5
     same-length

@@ -1,0 +1,90 @@
+-- Which choices hold a cluster whole, on document 01's board, and why they must: with half a cluster chosen, what others send about its other
+-- half changes the chosen one's record. All computed by the rules. Assumes nothing.
+use Prim.Native.Nat.{ℕ}
+use mathlib.Core.Path.{_≡_, refl, sym, ap, _∙_}
+use mathlib.Core.Bool.{true, false}
+use mathlib.Core.List.{List, [], _∷_}
+use native.Mathlib.Omega.{arith}
+use Rattle.rules.specs.declared.Record.{Record}
+use Rattle.rules.specs.Table.{firstOf, anyOf, allOf, placeOf}
+use Rattle.rules.specs.Board.{Board, ours, boardHost, activeHost, rows, rowOf, onBoard, classAt, classOf, clusterAt, homeAt, homeOf, shareControl, maskOf}
+use Rattle.rules.specs.AccessList.{noEntry, partsFrom, namedIn, entryTable, entriesTable, listTable, verdictOf, accepted, entryIn, withPart, withParts, noEntries, entriesOf, hasEntry, isMaster, isSecondary, permitted}
+use Rattle.rules.specs.Message.{kindOf, namesProcessor, subjectOf, isAbout}
+use Rattle.rules.specs.Outcome.{senderWrong, wordsMissing, waitFailed, admission, byWords, outcomeTable, outcomeOf, carriedOut}
+use Rattle.rules.specs.Effect.{recordAfter}
+use Rattle.rules.specs.State.{listed, State, freeOwn, fresh, entryOf, recordIn, recordOf, viewOf, putIn, stored}
+use Rattle.rules.specs.Call.{list, verdictTo, taken, afterOffer, afterMessage, Call, next}
+use Rattle.rules.specs.Sequence.{permittedFor, run}
+use Rattle.rules.specs.Cluster.{clusterList, request, setControl}
+use Rattle.rules.proofs.Tests.{clash}
+use Rattle.noninterference.specs.Statement.{clustersWhole, Ready, insider, aboutChosen, picked, picks, Noninterference}
+use Rattle.noninterference.proofs.Theorem.{freshly-loaded}
+
+-- ---- which choices there are
+
+-- {1}, {32, 33} and all four hold the cluster whole or not at all; {32} alone does not, nor does {33}
+whole-choices :
+    (clustersWhole ours (1 ∷ []) ≡ true)
+    × (clustersWhole ours (32 ∷ 33 ∷ []) ≡ true)
+    × (clustersWhole ours (1 ∷ 2 ∷ 32 ∷ 33 ∷ []) ≡ true)
+unfolding clustersWhole anyOf allOf ours placeOf rowOf clusterAt homeAt homeOf shareControl
+whole-choices = (refl, refl, refl)
+
+half-choices : (clustersWhole ours (32 ∷ []) ≡ false) × (clustersWhole ours (33 ∷ []) ≡ false)
+unfolding clustersWhole anyOf allOf ours placeOf rowOf clusterAt homeAt homeOf shareControl
+half-choices = (refl, refl)
+
+-- ---- a list that names all four
+
+abbrev start : State
+start = afterOffer (fresh ours) (list clusterList)
+
+start-board : start .setup .board ≡ ours
+unfolding firstOf anyOf ours boardHost activeHost placeOf rows rowOf onBoard partsFrom namedIn entryTable entriesTable listTable verdictOf accepted listed fresh verdictTo taken afterOffer
+start-board = refl
+
+-- demand 3 holds for the four, and for the cluster
+pub all-four : Noninterference start (1 ∷ 2 ∷ 32 ∷ 33 ∷ [])
+unfolding firstOf anyOf allOf ours boardHost activeHost placeOf rows rowOf onBoard partsFrom namedIn entryTable entriesTable listTable verdictOf accepted
+all-four = freshly-loaded ours clusterList (1 ∷ 2 ∷ 32 ∷ 33 ∷ []) refl refl (whole-choices .2)
+
+pub the-cluster : Noninterference start (32 ∷ 33 ∷ [])
+unfolding firstOf anyOf allOf ours boardHost activeHost placeOf rows rowOf onBoard partsFrom namedIn entryTable entriesTable listTable verdictOf accepted
+the-cluster = freshly-loaded ours clusterList (32 ∷ 33 ∷ []) refl refl (whole-choices .1)
+
+-- 32 alone is no such choice
+pub half-not-ready : Ready start (32 ∷ []) → ⊥
+half-not-ready ready =
+    clash (ready .whole) (ap (λ (b : Board). clustersWhole b (32 ∷ [])) start-board ∙ half-choices .0)
+
+-- ---- why it is none
+
+-- host 10 takes 32
+abbrev quiet : List Call
+quiet = request 10 32 ∷ []
+
+-- and host 12, which 33's entry permits and 32's does not, takes 33 and sets a control bit through it
+abbrev disturbed : List Call
+disturbed = request 10 32 ∷ request 12 33 ∷ setControl 12 33 0x1 0 ∷ []
+
+-- the two agree in what 32's insiders send about 32
+same-picks : picks (start .setup) (32 ∷ []) quiet ≡ picks (start .setup) (32 ∷ []) disturbed
+unfolding firstOf anyOf ours boardHost activeHost placeOf rows rowOf onBoard noEntry partsFrom namedIn entryTable entriesTable listTable verdictOf accepted entryIn withPart withParts noEntries entriesOf hasEntry isMaster isSecondary permitted kindOf namesProcessor subjectOf isAbout listed fresh entryOf verdictTo taken afterOffer permittedFor insider aboutChosen picked picks
+same-picks = refl
+
+-- and leave 32 different control words
+pub different-words : (recordOf (run start quiet) 32 .control ≡ 0) × (recordOf (run start disturbed) 32 .control ≡ 1)
+unfolding firstOf anyOf ours boardHost activeHost placeOf rows rowOf onBoard classAt classOf clusterAt homeAt maskOf noEntry partsFrom namedIn entryTable entriesTable listTable verdictOf accepted entryIn withPart withParts noEntries entriesOf hasEntry isMaster isSecondary permitted kindOf subjectOf senderWrong wordsMissing waitFailed admission byWords outcomeTable outcomeOf carriedOut recordAfter listed freeOwn fresh entryOf recordIn recordOf viewOf putIn stored verdictTo taken afterOffer afterMessage next run
+different-words = (refl, refl)
+
+-- so demand 3 would be false of 32 alone
+pub half-false : Noninterference start (32 ∷ []) → ⊥
+unfolding anyOf
+half-false claimed =
+    apart
+    (sym (different-words .0)
+    ∙ ap (λ (r : Record). r .control) (claimed .same-records quiet disturbed same-picks 32 refl)
+    ∙ different-words .1)
+  where
+    apart : _≡_ {A = ℕ} 0 1 → ⊥
+    apart e = omega arith
