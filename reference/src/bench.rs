@@ -1,6 +1,9 @@
-//! The fixed cases: the pack on the bench and the worked session, with what they have to give.
+//! The fixed cases: the pack on the bench, the change requests and the worked session, with what
+//! they have to give.
 
 use crate::message::ANSWER_BYTES;
+
+mod cluster;
 
 /// One thing that happens in a case. The line is what has to be printed.
 #[derive(Clone, Debug)]
@@ -56,6 +59,7 @@ pub fn cases() -> Vec<Case> {
     cases.extend(length_cases());
     cases.extend(open_cases());
     cases.extend(processor_cases());
+    cases.extend(cluster::cases());
     cases.push(worked_session());
     cases
 }
@@ -68,10 +72,14 @@ pub fn bytes_of(text: &str) -> Vec<u8> {
 
 /// The list of the bench.
 pub fn bench_list() -> Vec<u8> {
+    list_with(&["01 03 00 05 00 00 00 00 00", "02 03 00 06 00 0A 00 00 00"])
+}
+
+/// A list with these entries, and zeros behind them.
+fn list_with(entries: &[&str]) -> Vec<u8> {
     let mut list = bytes_of("EA F1 24 01");
-    list.extend(bytes_of("01 03 00 05 00 00 00 00 00"));
-    list.extend(bytes_of("02 03 00 06 00 0A 00 00 00"));
-    list.extend([0; 270]);
+    entries.iter().for_each(|entry| list.extend(bytes_of(entry)));
+    list.resize(292, 0);
     list
 }
 
@@ -259,7 +267,7 @@ fn open_cases() -> Vec<Case> {
 }
 
 /// Every processor byte: which are on the board, in messages and in lists, and that each of those has
-/// a record of its own.
+/// a vector and config of its own.
 fn processor_cases() -> Vec<Case> {
     let with = |message: &str, byte: u8| [bytes_of(message), vec![byte]].concat();
     let requests = (0..=255).map(|byte| {

@@ -23,19 +23,21 @@ pub enum Word {
 /// Flag bits that may be named: by class, then by word.
 const FLAG_MASKS: [[u32; 2]; 2] = [[0xFF03, 0x3], [0x10F, 0x103]];
 
-/// A processor's number in messages and lists, and its class.
+/// A processor's number in messages and lists, its class and its cluster.
 #[derive(Clone, Copy, Debug)]
 pub struct Processor {
     pub number: u8,
     pub class: Class,
+    /// processors of one cluster have one control word; none for a processor that stands alone
+    pub cluster: Option<u8>,
 }
 
 /// The processors in board order; a processor's place here is its row in both memories.
 pub const PROCESSORS: [Processor; 4] = [
-    Processor { number: 1, class: Class::R5 },
-    Processor { number: 2, class: Class::R5 },
-    Processor { number: 32, class: Class::Armv8 },
-    Processor { number: 33, class: Class::Armv8 },
+    Processor { number: 1, class: Class::R5, cluster: None },
+    Processor { number: 2, class: Class::R5, cluster: None },
+    Processor { number: 32, class: Class::Armv8, cluster: Some(1) },
+    Processor { number: 33, class: Class::Armv8, cluster: Some(1) },
 ];
 
 /// The flag bits of `word` that a message may name on a processor of `class`.
@@ -58,6 +60,21 @@ pub fn row_of(number: u8) -> Option<usize> {
     PROCESSORS.iter().position(|p| p.number == number)
 }
 
+/// The row where the control word of this row is kept: that of the cluster's first processor in
+/// board order, or its own for a processor that stands alone.
+pub fn control_row(row: usize) -> usize {
+    let Some(cluster) = PROCESSORS[row].cluster else {
+        return row;
+    };
+    PROCESSORS.iter().position(|p| p.cluster == Some(cluster)).unwrap_or(row)
+}
+
+/// The other rows that have the control word of this row.
+pub fn sharers(row: usize) -> impl Iterator<Item = usize> {
+    let shares = move |other: &usize| *other != row && control_row(*other) == control_row(row);
+    (0..PROCESSORS.len()).filter(shares)
+}
+
 #[cfg(test)]
 mod tests {
     use super::*;
@@ -68,6 +85,13 @@ mod tests {
         assert_eq!(rows, [Some(0), Some(1), Some(2), Some(3)]);
         let known = (0..=255).filter(|&n| row_of(n).is_some()).count();
         assert_eq!(known, 4);
+    }
+
+    #[test]
+    fn application_cores_share_a_control_word() {
+        assert_eq!([0, 1, 2, 3].map(control_row), [0, 1, 2, 2]);
+        let shared = [0, 1, 2, 3].map(|row| sharers(row).collect::<Vec<_>>());
+        assert_eq!(shared, [vec![], vec![], vec![3], vec![2]]);
     }
 
     #[test]

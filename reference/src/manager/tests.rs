@@ -2,6 +2,10 @@
 
 use super::*;
 use crate::bench::bytes_of;
+use crate::harness::drafts::{draft, Scene};
+use crate::harness::goals::goals;
+use crate::harness::memories::{any_access, any_records};
+use crate::harness::random::Random;
 use crate::message::Kind;
 
 const LISTED: AccessMemory = [1, 3, 5, 0, 0, 3, 6, 10, 0, 0, 0, 0, 0, 0, 0, 0, 0];
@@ -145,6 +149,42 @@ fn set_words_add_and_remove_bits() {
     let (report, records, _) = run(LISTED, held, control, &[]);
     assert_eq!(report.outcome, Outcome::OK);
     assert_eq!(records[10..15], [3, 0, 0, 0x1000_0009, 2]);
+}
+
+#[test]
+fn set_through_the_second_core_changes_the_word_of_the_first() {
+    let held = records_with(&[(10, 5), (14, 0x8000_0103), (15, 3), (19, 0xEEEE_EEEE)]);
+    let control = "01 C1 03 01 02 00 00 00 21 00 00 00 00 01 01 00 00";
+    let (report, records, _) = run(LISTED, held, control, &[]);
+    assert_eq!(report.outcome, Outcome::OK);
+    let changed = [(10, 5), (14, 0x8000_0002), (15, 3), (19, 0xEEEE_EEEE)];
+    assert_eq!(records, records_with(&changed));
+    let (_, _, answer) = run(LISTED, records, "00 C4 03 01 02 00 00 00 21", &[0]);
+    assert_eq!(answer[21..25], bytes_of("02 00 00 80"));
+}
+
+/// Over memories of any content: the place for a control word in 33's row decides nothing, and it
+/// keeps its value.
+#[test]
+fn place_in_the_second_row_is_not_used() {
+    const PLACE: usize = 19;
+    let (mut random, goals) = (Random::new(7, 0), goals());
+    for _ in 0..20_000 {
+        let (access, before) = (any_access(&mut random), any_records(&mut random));
+        let scene = Scene { access: &access, records: &before, status: &[], most_words: 255 };
+        let goal = random.pick(&goals);
+        let draft = draft(&mut random, &scene, goal);
+        let status = draft.status.unwrap_or_default();
+        let call = Call { channel: draft.channel, message: &draft.message, status: &status };
+        let given = |place: u32| {
+            let (mut records, mut answer) = (before, [0xEE; ANSWER_BYTES]);
+            records[PLACE] = place;
+            let report = handle(&access, &mut records, &call, &mut answer);
+            assert_eq!(records[PLACE], place);
+            (report, answer, records[..PLACE].to_vec())
+        };
+        assert_eq!(given(before[PLACE]), given(random.u32()));
+    }
 }
 
 #[test]
