@@ -114,11 +114,16 @@ impl<R: Read> Session<R> {
     }
 
     fn run_message(&mut self) -> Event {
-        let call = Call { channel: self.body[0], message: &self.body[1..], status: &self.status };
+        let call = call_of(&self.body, &self.status);
         let mut answer = [0; ANSWER_BYTES];
         let report = handle(&self.access, &mut self.records, &call, &mut answer);
         Event::Message(report, answer)
     }
+}
+
+/// The call that a message field stands for: its channel host, and the message behind that.
+pub fn call_of<'a>(body: &'a [u8], status: &'a [u32]) -> Call<'a> {
+    Call { channel: body[0], message: &body[1..], status }
 }
 
 /// Whether a field with this good tag may have this length.

@@ -12,9 +12,6 @@ use pomrozek_reference::harness::edges::edge_recordings;
 use pomrozek_reference::harness::library::{compare_lists, compare_messages, StaticLibrary};
 use pomrozek_reference::harness::program::{first_difference, keep, run};
 use pomrozek_reference::harness::recordings::recording;
-use pomrozek_reference::harness::situations::{Seen, Situations};
-use pomrozek_reference::record::RecordMemory;
-use pomrozek_reference::session::{write_line, Event, Session};
 
 const USAGE: &str = "usage: crosscheck --replay PROGRAM [--seed N] [--recordings N]";
 
@@ -29,14 +26,6 @@ struct Options {
     replay: PathBuf,
     seed: u64,
     recordings: u64,
-}
-
-/// What the recordings reached.
-#[derive(Default)]
-struct Reached {
-    recordings: u64,
-    coverage: Coverage,
-    situations: Situations,
 }
 
 fn main() -> ExitCode {
@@ -85,20 +74,24 @@ fn seed_from_clock() -> u64 {
 /// Runs all parts; gives what the last line says of them.
 fn check(options: &Options) -> Result<String, String> {
     check_cases(&options.replay)?;
-    let reached = check_recordings(options)?;
+    let (recordings, replayed) = check_recordings(options)?;
     let called = check_library(options.seed)?;
     let gaps = [
-        reached.coverage.gaps(false),
-        reached.coverage.ending_gaps(),
-        reached.situations.gaps(),
-        called.gaps(true),
+        named("recordings", replayed.gaps(false)),
+        named("recordings", replayed.ending_gaps()),
+        named("library calls", called.gaps(true)),
     ];
     if !gaps.concat().is_empty() {
         return Err(format!("not reached, or not possible\n{}", gaps.concat().join("\n")));
     }
     let calls = called.message_total() + called.list_total();
-    let messages = reached.coverage.message_total();
-    Ok(format!("{} recordings, {messages} messages, {calls} library calls", reached.recordings))
+    let messages = replayed.message_total();
+    Ok(format!("{recordings} recordings, {messages} messages, {calls} library calls"))
+}
+
+/// The gaps with the part that left them.
+fn named(part: &str, gaps: Vec<String>) -> Vec<String> {
+    gaps.iter().map(|gap| format!("{part}: {gap}")).collect()
 }
 
 /// The fixed cases: model, static library and replay program.
@@ -119,14 +112,15 @@ fn check_cases(replay: &Path) -> Result<(), String> {
     Ok(())
 }
 
-/// The edge recordings and then the random ones, through the replay program and the model.
-fn check_recordings(options: &Options) -> Result<Reached, String> {
+/// The edge recordings and then the random ones, through the replay program and the model; gives
+/// how many there were and what they reached.
+fn check_recordings(options: &Options) -> Result<(u64, Coverage), String> {
     let edges = edge_recordings();
     let count = edges.len() as u64 + options.recordings;
     let random = (0..options.recordings).map(|number| recording(options.seed, number));
-    let mut reached = Reached { recordings: count, ..Reached::default() };
+    let mut coverage = Coverage::default();
     for (number, recording) in edges.into_iter().chain(random).enumerate() {
-        let expected = replay_model(&recording, &mut reached);
+        let expected = coverage.count_recording(&recording);
         let piece = PIECES[number % PIECES.len()];
         let given = run(&options.replay, &recording, piece)
             .map_err(|error| format!("recording {number}: {error}"))?;
@@ -134,14 +128,9 @@ fn check_recordings(options: &Options) -> Result<Reached, String> {
             return Err(describe(options.seed, number as u64, &recording, difference));
         }
     }
-    println!("recordings: {count}; not asked/asked by outcome:\n{}", reached.coverage.table());
-    println!(
-        "bad record {}, cut record {}\n{}",
-        reached.coverage.bad_records,
-        reached.coverage.cut_records,
-        reached.situations.table()
-    );
-    Ok(reached)
+    println!("recordings: {count}; not asked/asked by outcome:\n{}", coverage.table());
+    println!("bad record {}, cut record {}", coverage.bad_records, coverage.cut_records);
+    Ok((count, coverage))
 }
 
 fn describe(
@@ -155,38 +144,6 @@ fn describe(
         Err(error) => format!("not kept: {error}"),
     };
     format!("recording {number} ({kept}), line {line}\n model   {expected}\n program {given}")
-}
-
-/// The model's lines for a recording; counts what it reaches.
-fn replay_model(recording: &[u8], reached: &mut Reached) -> Vec<u8> {
-    let mut lines = Vec::new();
-    let mut session = Session::new(recording);
-    let mut before = session.records;
-    // Reading from memory and writing to it do not fail.
-    while let Ok(Some(event)) = session.next_event() {
-        let _ = write_line(&mut lines, &event);
-        reached.count(&session, &before, &event);
-        before = session.records;
-    }
-    lines
-}
-
-impl Reached {
-    /// Counts one event. The records are those that a message met.
-    fn count(&mut self, session: &Session<&[u8]>, before: &RecordMemory, event: &Event) {
-        match *event {
-            Event::List(verdict) => self.coverage.count_list(verdict),
-            Event::Status => {}
-            Event::Message(report, _) => {
-                let body = session.body();
-                self.coverage.count_message(&body[1..], report.outcome);
-                let seen = Seen::new((&session.access, before), body, &session.status, report);
-                seen.iter().for_each(|seen| self.situations.count(seen));
-            }
-            Event::Bad => self.coverage.bad_records += 1,
-            Event::Cut => self.coverage.cut_records += 1,
-        }
-    }
 }
 
 /// Calls to the static library.

@@ -10,7 +10,7 @@ use crate::wait::Wait;
 const R5_CORES: [u8; 2] = [1, 2];
 const R5_HALT: u32 = 0x1;
 const R5_VECTOR: u32 = 0x41C0_0080;
-const A53_CORE: u8 = 32;
+const A53_CORES: [u8; 2] = [32, 33];
 const A53_VECTOR: u32 = 0x8000_0000;
 const SECURE_HOST: u8 = 10;
 
@@ -161,20 +161,20 @@ pub fn uboot_r5(host: u8, core: u8) -> Vec<Sent> {
 /// not hold.
 pub fn uboot_a53(host: u8) -> Vec<Sent> {
     let mut client = Client::new(host, 0xF5, 0x15, 0x5A);
-    client.request(A53_CORE);
-    client.set_config(A53_CORE, A53_VECTOR, 0x100, 0);
-    client.handover(A53_CORE, SECURE_HOST);
-    client.release(A53_CORE + 1);
+    let [core, other] = A53_CORES;
+    client.request(core);
+    client.set_config(core, A53_VECTOR, 0x100, 0);
+    client.handover(core, SECURE_HOST);
+    client.release(other);
     client.authenticate(A53_VECTOR);
     client.sent
 }
 
 /// Trusted Firmware-A: a core is switched on twice and never released, and switched off without
-/// asking for answers.
-pub fn trusted_firmware(core: u8) -> Vec<Sent> {
+/// asking for answers. A look at the other core then shows the control word that they share.
+pub fn trusted_firmware(core: u8, other: u8) -> Vec<Sent> {
     let mut client = Client::new(SECURE_HOST, 1, 1, 0);
     for _ in 0..2 {
-        client.flags = FLAG_REQ_ACK_ON_PROCESSED;
         client.request(core);
         client.set_config(core, A53_VECTOR, 0, 0);
         client.flags = 0;
@@ -186,6 +186,8 @@ pub fn trusted_firmware(core: u8) -> Vec<Sent> {
         client.set_control(core, 0, 0x100);
         client.set_control(core, 0x1, 0);
         client.wait(core, 1, 0x20);
+        client.flags = FLAG_REQ_ACK_ON_PROCESSED;
+        client.get_status(other);
     }
     client.sent
 }
@@ -207,13 +209,14 @@ pub fn boot_cycle(random: &mut Random, core: u8, host: u8, next: u8) -> Vec<Sent
 
 /// All of these clients at once, each in its own order.
 pub fn mixed_clients(random: &mut Random) -> Vec<Sent> {
+    let [first, second] = A53_CORES;
     let mut queues = vec![
         linux_r5(12),
         uboot_r5(5, 1),
         uboot_r5(6, 2),
         uboot_a53(random.pick(&[12, 13, 4])),
-        trusted_firmware(32),
-        trusted_firmware(33),
+        trusted_firmware(first, second),
+        trusted_firmware(second, first),
     ];
     queues.iter_mut().for_each(|queue| queue.reverse());
     let mut sent = Vec::new();
@@ -233,8 +236,8 @@ mod tests {
     use crate::harness::recordings::{field, message_field, status_field};
     use crate::session::{replay, TAG_LIST};
 
-    /// The outcomes of a client that works alone, with its cores idle.
-    fn outcomes(sent: &[Sent]) -> Vec<String> {
+    /// The lines of a client that works alone, with its cores idle.
+    fn lines(sent: &[Sent]) -> Vec<String> {
         let mut recording = field(TAG_LIST, &client_list());
         recording.extend(status_field(&[0x33; 255]));
         for (channel, message) in sent {
@@ -243,13 +246,16 @@ mod tests {
         let mut lines = Vec::new();
         replay(recording.as_slice(), &mut lines).unwrap();
         let text = String::from_utf8(lines).unwrap();
-        let first_words = text.lines().skip(1).map(|line| line[..2].to_string());
-        first_words.collect()
+        text.lines().skip(1).map(str::to_string).collect()
+    }
+
+    fn outcomes(sent: &[Sent]) -> Vec<String> {
+        lines(sent).iter().map(|line| line[..2].to_string()).collect()
     }
 
     #[test]
     fn clients_alone_are_served() {
-        for sent in [linux_r5(12), uboot_r5(5, 1), trusted_firmware(32)] {
+        for sent in [linux_r5(12), uboot_r5(5, 1), trusted_firmware(32, 33)] {
             let outcomes = outcomes(&sent);
             assert_eq!(outcomes.len(), sent.len());
             assert!(outcomes.iter().all(|outcome| outcome == "OK"), "{outcomes:?}");
@@ -259,6 +265,18 @@ mod tests {
     #[test]
     fn uboot_is_refused_what_it_does_not_hold() {
         assert_eq!(outcomes(&uboot_a53(12)), ["OK", "OK", "OK", "N7", "N5"]);
+    }
+
+    /// Bits 0 and 1 are left set by switching off, and bit 8 is not.
+    #[test]
+    fn switching_off_one_core_shows_in_the_other() {
+        let lines = lines(&trusted_firmware(32, 33));
+        let answers: Vec<_> = lines.iter().filter(|line| line.contains(" 00c4")).collect();
+        let expected = [
+            "OK 0 0 00c40a0b02000000210000000000000000000000000300000033000000",
+            "OK 0 0 00c40a1602000000210000000000000000000000000300000033000000",
+        ];
+        assert_eq!(answers, expected);
     }
 
     #[test]

@@ -5,28 +5,58 @@ use std::fmt::Write;
 
 use crate::access::{ListFault, LIST_FAULTS};
 use crate::harness::goals::{goals, Subject, POSSIBLE, SUBJECTS};
+use crate::harness::situations::{Seen, Situations, Watch};
 use crate::message::HEADER_BYTES;
 use crate::outcome::{Outcome, OUTCOMES};
+use crate::session::{call_of, write_line, Event, Session};
 
-/// How often each combination, verdict and ending was reached, and with which processors.
+/// How often each combination, situation, verdict and ending was reached, and with which
+/// processors.
 #[derive(Default)]
 pub struct Coverage {
     messages: [[[u64; 2]; OUTCOMES.len()]; SUBJECTS],
     /// the processor bytes that were looked up
     processors: BTreeSet<u8>,
+    situations: Situations,
     lists: [u64; LIST_FAULTS.len() + 1],
     pub bad_records: u64,
     pub cut_records: u64,
 }
 
 impl Coverage {
-    /// Counts one message with its outcome.
-    pub fn count_message(&mut self, message: &[u8], outcome: Outcome) {
+    /// Replays a recording through the model and counts what it reaches; gives the lines.
+    pub fn count_recording(&mut self, recording: &[u8]) -> Vec<u8> {
+        let mut lines = Vec::new();
+        let mut session = Session::new(recording);
+        let mut watch = Watch::default();
+        let mut before = session.records;
+        // Reading from memory and writing to it do not fail.
+        while let Ok(Some(event)) = session.next_event() {
+            let _ = write_line(&mut lines, &event);
+            match event {
+                Event::List(verdict) => self.count_list(verdict),
+                Event::Status => {}
+                Event::Message(report, _) => {
+                    let call = call_of(session.body(), &session.status);
+                    let seen = watch.see((&session.access, &before), &call, report);
+                    self.count_message(call.message, report.outcome, seen.as_ref());
+                }
+                Event::Bad => self.bad_records += 1,
+                Event::Cut => self.cut_records += 1,
+            }
+            before = session.records;
+        }
+        lines
+    }
+
+    /// Counts one message with its outcome and, if it had a whole order, what was seen of it.
+    pub fn count_message(&mut self, message: &[u8], outcome: Outcome, seen: Option<&Seen>) {
         let (subject, asked) = Subject::of(message);
         self.messages[subject.index()][outcome as usize][usize::from(asked)] += 1;
         if outcome >= Outcome::N6 {
             self.processors.insert(message[HEADER_BYTES]);
         }
+        seen.into_iter().for_each(|seen| self.situations.count(seen));
     }
 
     /// Counts one list with its verdict.
@@ -63,6 +93,7 @@ impl Coverage {
             }
         }
         gaps.extend(self.processor_gaps());
+        gaps.extend(self.situations.gaps());
         gaps.extend(self.list_gaps());
         gaps
     }
@@ -86,7 +117,7 @@ impl Coverage {
             .collect()
     }
 
-    /// A table by outcome: not asked / asked for each type, then the list verdicts.
+    /// A table by outcome: not asked / asked for each type, then the list verdicts and situations.
     pub fn table(&self) -> String {
         let mut text = format!("{:12}", "");
         for outcome in OUTCOMES {
@@ -104,7 +135,7 @@ impl Coverage {
         for (number, count) in self.lists.iter().enumerate() {
             write!(text, " {} {count}", verdict_name(number)).unwrap();
         }
-        text
+        text + &self.situations.table()
     }
 }
 
@@ -118,17 +149,33 @@ fn verdict_name(number: usize) -> String {
 #[cfg(test)]
 mod tests {
     use super::*;
+    use crate::bench::cases;
+    use crate::harness::cases::recording_of;
 
     #[test]
     fn gaps_name_the_missing_and_the_impossible() {
         let mut coverage = Coverage::default();
         let all = coverage.gaps(true).len();
-        assert_eq!(all, goals().len() + 256 + 9);
-        coverage.count_message(&[0, 0xC0, 3, 0, 2, 0, 0, 0, 1], Outcome::OK);
-        coverage.count_message(&[0, 0xC0, 3, 0, 2, 0, 0, 0], Outcome::N4);
+        let situations = Situations::default().gaps().len();
+        assert_eq!(all, goals().len() + 256 + situations + 9);
+        coverage.count_message(&[0, 0xC0, 3, 0, 2, 0, 0, 0, 1], Outcome::OK, None);
+        coverage.count_message(&[0, 0xC0, 3, 0, 2, 0, 0, 0], Outcome::N4, None);
         coverage.count_list(Err(ListFault::A8));
         assert_eq!(coverage.gaps(true).len(), all - 4);
-        coverage.count_message(&[0, 0xC0, 3, 0, 0, 0, 0, 0, 1], Outcome::N9);
+        coverage.count_message(&[0, 0xC0, 3, 0, 0, 0, 0, 0, 1], Outcome::N9, None);
         assert!(coverage.gaps(true).contains(&"Request N9 not asked: 1".to_string()));
+    }
+
+    #[test]
+    fn shared_words_are_counted_by_direction() {
+        let name = "control set through 32 shows in the status of 33";
+        let case = cases().into_iter().find(|case| case.name == name).unwrap();
+        let mut coverage = Coverage::default();
+        coverage.count_recording(&recording_of(&case).0);
+        let missing = |gap: &str| coverage.gaps(false).contains(&gap.to_string());
+        assert!(!missing("control set through 32, read through 33: 0"));
+        assert!(missing("control set through 33, read through 32: 0"));
+        assert!(!missing("control set through 32, 33 free: 0"));
+        assert!(missing("control set through 32, 33 of another host: 0"));
     }
 }

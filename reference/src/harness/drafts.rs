@@ -78,7 +78,7 @@ impl Drafter<'_> {
     }
 
     fn attempt(&mut self) -> Draft {
-        let row = self.random.below(PROCESSORS.len());
+        let row = self.goal.row.unwrap_or_else(|| self.random.below(PROCESSORS.len()));
         let (channel, host) = self.hosts(row);
         let mut message = self.header(host);
         let mut status = None;

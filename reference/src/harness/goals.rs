@@ -1,8 +1,9 @@
 //! What a message can come to: the combinations of type, outcome and answer asked or not, worked
 //! out from the order of the tests.
 
+use crate::board::{row_of, sharers};
 use crate::harness::random::Random;
-use crate::message::{Header, Kind, KINDS};
+use crate::message::{read_order, Header, Kind, Order, KINDS};
 use crate::outcome::Outcome;
 use Outcome::{N1, N2, N3, N4, N5, N6, N7, N8, N9, OK, R1, R2, R3};
 
@@ -69,16 +70,30 @@ pub struct Goal {
     pub subject: Subject,
     pub outcome: Outcome,
     pub asked: bool,
+    /// the row of the processor to name; none for any
+    pub row: Option<usize>,
 }
 
 impl Goal {
     /// A request that is carried out.
     pub const REQUEST: Goal =
-        Goal { subject: Subject::Type(Kind::Request), outcome: OK, asked: true };
+        Goal { subject: Subject::Type(Kind::Request), outcome: OK, asked: true, row: None };
 
     /// A status answer, which shows what a record holds.
     pub const STATUS: Goal =
-        Goal { subject: Subject::Type(Kind::GetStatus), outcome: OK, asked: true };
+        Goal { subject: Subject::Type(Kind::GetStatus), outcome: OK, asked: true, row: None };
+
+    /// The status answer of another core, if the message has set the control word that they share.
+    pub fn shared_look(message: &[u8], outcome: Outcome) -> Option<Goal> {
+        if outcome != OK {
+            return None;
+        }
+        let Ok((processor, Order::SetControl(_))) = read_order(message) else {
+            return None;
+        };
+        let row = sharers(row_of(processor)?).next();
+        row.map(|_| Goal { row, ..Goal::STATUS })
+    }
 
     /// Whether some host has to control a processor for the goal to be reached.
     pub fn needs_controller(&self) -> bool {
@@ -96,9 +111,9 @@ pub fn goals() -> Vec<Goal> {
     let mut goals = Vec::new();
     for (subject, outcomes) in POSSIBLE {
         for &outcome in outcomes {
-            goals.push(Goal { subject, outcome, asked: false });
+            goals.push(Goal { subject, outcome, asked: false, row: None });
             if subject != Subject::Short {
-                goals.push(Goal { subject, outcome, asked: true });
+                goals.push(Goal { subject, outcome, asked: true, row: None });
             }
         }
     }
@@ -123,5 +138,16 @@ mod tests {
     fn short_messages_have_their_own_row() {
         assert_eq!(Subject::of(&[0, 0xC0, 3, 0, 2, 0, 0]), (Subject::Short, false));
         assert_eq!(Subject::of(&[2, 0xC0, 3, 0, 2, 0, 0, 0]), (Subject::Other, true));
+    }
+
+    #[test]
+    fn a_shared_word_is_looked_at_through_the_other_core() {
+        let row = |number: u8, processor: u8, outcome| {
+            let mut message = vec![number, 0xC1, 3, 0, 2, 0, 0, 0, processor];
+            message.resize(25, 0);
+            Goal::shared_look(&message, outcome).and_then(|goal| goal.row)
+        };
+        assert_eq!([1, 2, 32, 33].map(|p| row(1, p, OK)), [None, None, Some(3), Some(2)]);
+        assert_eq!([row(1, 32, N8), row(0, 32, OK)], [None, None]);
     }
 }

@@ -13,6 +13,7 @@ use crate::harness::memories::{
     any_access, any_access_before, any_records, between_guards, guarded, lent_part, GUARD,
 };
 use crate::harness::random::Random;
+use crate::harness::situations::Watch;
 use crate::manager::{handle, Call};
 use crate::message::ANSWER_BYTES;
 use crate::outcome::{Outcome, Report};
@@ -101,18 +102,32 @@ pub fn compare_messages(seed: u64, calls: u64, coverage: &mut Coverage) -> Resul
         let mut random = Random::new(seed ^ 0x4D65_7373, start);
         let access = any_access(&mut random);
         let mut records = any_records(&mut random);
+        let mut watch = Watch::default();
+        let mut look = None;
         for number in 0..CALLS_PER_START {
-            let trial = Trial::new(&mut random, &goals, (&access, &records));
+            let goal = look.unwrap_or_else(|| possible_goal(&mut random, &goals, &access));
+            let trial = Trial::new(&mut random, goal, (&access, &records));
             let before = records;
-            let outcome = trial.compare(&access, &mut records).map_err(|text| {
+            let report = trial.compare(&access, &mut records).map_err(|text| {
                 let place = start * CALLS_PER_START + number;
                 let told = trial.describe(&access, &before);
                 format!("message call {place}: {text}\n{told}")
             })?;
-            coverage.count_message(&trial.message, outcome);
+            let seen = watch.see((&access, &before), &trial.call(), report);
+            coverage.count_message(&trial.message, report.outcome, seen.as_ref());
+            look = Goal::shared_look(&trial.message, report.outcome);
         }
     }
     Ok(())
+}
+
+/// One of the goals that the access memory allows.
+fn possible_goal(random: &mut Random, goals: &[Goal], access: &AccessMemory) -> Goal {
+    pick_goal(random, goals, |outcome| match outcome {
+        Outcome::R1 | Outcome::R2 => true,
+        Outcome::N1 => !has_list(access),
+        _ => has_list(access),
+    })
 }
 
 /// One message call that both are to make.
@@ -124,17 +139,12 @@ struct Trial {
 }
 
 impl Trial {
-    /// Draws a message toward one of the goals that the memories allow.
-    fn new(random: &mut Random, goals: &[Goal], lent: (&AccessMemory, &RecordMemory)) -> Trial {
+    /// Draws a message toward the goal.
+    fn new(random: &mut Random, goal: Goal, lent: (&AccessMemory, &RecordMemory)) -> Trial {
         let (access, records) = lent;
         let count = random.pick_or(&[0], |random| random.between(0, MOST_WORDS));
         let standing = random.words(count);
         let scene = Scene { access, records, status: &standing, most_words: MOST_WORDS };
-        let goal = pick_goal(random, goals, |outcome| match outcome {
-            Outcome::R1 | Outcome::R2 => true,
-            Outcome::N1 => !has_list(access),
-            _ => has_list(access),
-        });
         let mut draft = draft(random, &scene, goal);
         if random.one_in(20) {
             let length = random.between(0, LONGEST_RECORDED);
@@ -149,16 +159,15 @@ impl Trial {
         }
     }
 
+    fn call(&self) -> Call<'_> {
+        Call { channel: self.channel, message: &self.message, status: &self.status }
+    }
+
     /// Makes the call both ways and compares all that can be seen afterwards. The records are then
     /// what both left.
-    fn compare(
-        &self,
-        access: &AccessMemory,
-        records: &mut RecordMemory,
-    ) -> Result<Outcome, String> {
+    fn compare(&self, access: &AccessMemory, records: &mut RecordMemory) -> Result<Report, String> {
         let message = guarded(&self.message, 0xC3);
-        let message = between_guards(&message);
-        let call = Call { channel: self.channel, message, status: &self.status };
+        let call = Call { message: between_guards(&message), ..self.call() };
         let mut lent_access = guarded(access, 0x5AA5);
         let mut lent_records = guarded(records, 0x5AA5_5AA5);
         let mut lent_answer = guarded(&self.buffer, 0x5A);
@@ -174,7 +183,7 @@ impl Trial {
         same("access memory", &guarded(access, 0x5AA5), &lent_access)?;
         same("record memory", &guarded(records, 0x5AA5_5AA5), &lent_records)?;
         same("answer buffer", &guarded(&answer, 0x5A), &lent_answer)?;
-        Ok(report.outcome)
+        Ok(report)
     }
 
     fn describe(&self, access: &AccessMemory, records: &RecordMemory) -> String {

@@ -40,7 +40,11 @@ pub fn any_records(random: &mut Random) -> RecordMemory {
     if random.one_in(6) {
         return std::array::from_fn(|_| random.u32());
     }
+    // What no record uses keeps what is here: half of the time noise.
     let mut records = [0; RECORD_WORDS];
+    if random.one_in(2) {
+        records.fill_with(|| random.u32());
+    }
     for (row, processor) in PROCESSORS.iter().enumerate() {
         let record = Record {
             controller: u32::from(random.pick(&HOSTS)),

@@ -94,10 +94,10 @@ impl Recorder {
         self.status = words;
     }
 
-    fn message(&mut self, channel: u8, message: &[u8]) {
+    fn message(&mut self, channel: u8, message: &[u8]) -> Outcome {
         self.bytes.extend(message_field(channel, message));
         let call = Call { channel, message, status: &self.status };
-        handle(&self.access, &mut self.records, &call, &mut [0; ANSWER_BYTES]);
+        handle(&self.access, &mut self.records, &call, &mut [0; ANSWER_BYTES]).outcome
     }
 
     /// Messages and refused lists before the list, then this many goals one after the other.
@@ -147,7 +147,8 @@ impl Recorder {
     }
 
     /// One message toward a goal that the state allows, with a request before it where control is
-    /// needed and often lacking, and sometimes a look at the records behind it.
+    /// needed and often lacking, and sometimes a look at the records behind it: through the other
+    /// core where a shared word was set.
     fn approach(&mut self, goals: &[Goal]) {
         let listed = has_list(&self.access);
         let goal = pick_goal(&mut self.random, goals, |outcome| match outcome {
@@ -159,9 +160,9 @@ impl Recorder {
         if goal.needs_controller() && self.free_processors() > 1 {
             self.send_toward(Goal::REQUEST);
         }
-        self.send_toward(goal);
-        if listed && goal.outcome == Outcome::OK && self.random.one_in(3) {
-            self.send_toward(Goal::STATUS);
+        let shared_look = self.send_toward(goal);
+        if listed && goal.outcome == Outcome::OK && self.random.one_in(2) {
+            self.send_toward(shared_look.unwrap_or(Goal::STATUS));
         }
     }
 
@@ -170,7 +171,9 @@ impl Recorder {
         rows.filter(|&row| Record::load(&self.records, row).is_free()).count()
     }
 
-    fn send_toward(&mut self, goal: Goal) {
+    /// Sends a message toward the goal; gives the look that would show through another core what it
+    /// has set, if that is shared.
+    fn send_toward(&mut self, goal: Goal) -> Option<Goal> {
         let scene = Scene {
             access: &self.access,
             records: &self.records,
@@ -181,7 +184,8 @@ impl Recorder {
         if let Some(words) = draft.status {
             self.status(words);
         }
-        self.message(draft.channel, &draft.message);
+        let outcome = self.message(draft.channel, &draft.message);
+        Goal::shared_look(&draft.message, outcome)
     }
 
     /// What published boot code sends, sometimes under a list that was made for something else.
@@ -228,4 +232,21 @@ impl Recorder {
 pub fn header_of(tag: u8, length: usize) -> [u8; 3] {
     let length = (length as u16).to_le_bytes();
     [tag, length[0], length[1]]
+}
+
+#[cfg(test)]
+mod tests {
+    use super::*;
+    use crate::harness::coverage::Coverage;
+    use crate::harness::edges::edge_recordings;
+
+    #[test]
+    fn recordings_leave_no_gap() {
+        let mut coverage = Coverage::default();
+        let random = (0..1200).map(|number| recording(8, number));
+        for recording in edge_recordings().into_iter().chain(random) {
+            coverage.count_recording(&recording);
+        }
+        assert_eq!([coverage.gaps(false), coverage.ending_gaps()].concat(), [""; 0]);
+    }
 }
