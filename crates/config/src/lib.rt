@@ -10,7 +10,7 @@ use effects::with_config;
 use operands::config_good;
 use operations::row_in;
 use records::load;
-use records::store;
+use records::store_own;
 use rights::is_controller;
 use rules::Outcome;
 
@@ -33,6 +33,6 @@ pub fn set_config(records: &mut [u32], channel: u8, message: &[u8]) -> Outcome
     if !config_good(class_at(row), message) {
         return Outcome::N8;
     }
-    store(records, row, with_config(message, state));
+    store_own(records, row, with_config(message, state));
     Outcome::Ok
 }

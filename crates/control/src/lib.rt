@@ -1,6 +1,6 @@
-// Set control: the control word of a processor. The function tests the rows of document 01's
-// outcome table from N4 on, in its order; the rows above are passed when it is called. OK changes
-// the record in the lent memory, and a refusal leaves it.
+// Set control: the control word of a processor, which its cluster shares. The function tests the rows
+// of document 01's outcome table from N4 on, in its order; the rows above are passed when it is called.
+// OK changes the word in the lent memory, and a refusal leaves it.
 ghost use mathlib.Core.List.{[]};
 ghost use Rattle.rules.specs.declared.Kind.the-variants.{SetControl};
 ghost use Rattle.operations.specs.Operation.{asked, CarriesByController};
@@ -10,11 +10,12 @@ use effects::with_control;
 use operands::control_good;
 use operations::row_in;
 use records::load;
-use records::store;
+use records::store_control;
 use rights::is_controller;
 use rules::Outcome;
 
-// Set control: the sender is the controller, and the flags may be set. The control word is changed.
+// Set control: the sender is the controller of the processor that it names, and the flags may be set.
+// The control word is changed, for its cluster too.
 pub fn set_control(records: &mut [u32], channel: u8, message: &[u8]) -> Outcome
     ensures { λ r. ⌜ CarriesByController SetControl (now (records .entry)) (asked channel (now (message .entry)) []) (now (records .exit)) r ⌝ }
 {
@@ -32,6 +33,7 @@ pub fn set_control(records: &mut [u32], channel: u8, message: &[u8]) -> Outcome
     if !control_good(class_at(row), message) {
         return Outcome::N8;
     }
-    store(records, row, with_control(message, state));
+    let next = with_control(message, state);
+    store_control(records, row, next.control);
     Outcome::Ok
 }

@@ -9,7 +9,7 @@ use board::ROWS;
 use effects::held_by;
 use operations::row_in;
 use records::load;
-use records::store;
+use records::store_own;
 use rights::is_controller;
 use rules::Outcome;
 use wire::byte_at;
@@ -33,6 +33,6 @@ pub fn handover(access: &[u16], records: &mut [u32], channel: u8, message: &[u8]
     if !is_permitted(access, row, host as u16) {
         return Outcome::N8;
     }
-    store(records, row, held_by(host, state));
+    store_own(records, row, held_by(host, state));
     Outcome::Ok
 }

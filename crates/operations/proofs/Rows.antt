@@ -13,14 +13,16 @@ use Rattle.rules.specs.declared.Outcome.{Outcome}
 use Rattle.rules.specs.declared.Outcome.the-variants.{N4, N5, N6, N7, N8, Ok}
 use Rattle.rules.specs.declared.Record.{Record}
 use Rattle.rules.specs.Table.{firstOf}
-use Rattle.rules.specs.Board.{ours, rows, rowOf, onBoard, classAt, classOf}
+use Rattle.rules.specs.Board.{ours, rows, rowOf, onBoard, classAt, classOf, homeAt}
 use Rattle.rules.specs.Bytes.{u16At}
 use Rattle.rules.specs.Message.{Query, kindOf, kindIn, sizeOf, isKind, processorOf, subjectOf}
 use Rattle.rules.specs.Outcome.{View, tooShort, notOffered, hasRight, operandsGood, wordsMissing, waitFailed, byWords, carriedOut, outcomeNumber}
 use Rattle.rules.specs.Effect.{effectOf}
+use Rattle.rules.specs.State.{ownOf}
 use Rattle.rules.proofs.Tests.{cond-true, cond-false}
 use Rattle.access.specs.Memory.{viewWith}
-use Rattle.records.specs.Memory.{recordAt, viewIn, withRecord}
+use Rattle.records.specs.Memory.{recordAt, viewIn, withOwn, withControl, withRecord}
+use Rattle.records.proofs.LentMemory.{own-stored, control-stored}
 use Rattle.operations.specs.Operation.{typeTable, rowIn, memoryAfter, Carries}
 
 -- ---- what a test of x says of the t that x is
@@ -175,6 +177,10 @@ module _ {k : Kind} {q : Query} {row : ℕ} {state state′ : Record} (r : Reach
 
 -- ---- the memory
 
+-- the record that was loaded is the one at that row
+loaded-is : {k : Kind} {q : Query} {memory : List ℕ} {row : ℕ} {state : Record} → Loaded k q memory row state → state ≡ recordAt memory row
+loaded-is {memory = memory} l = l .reached .same ∙ ap (recordAt memory) (sym (l .reached .here))
+
 module _ {k : Kind} {access memory : List ℕ} {q : Query} where
   -- a refusal leaves it
   pub refuses : {o : Outcome} → Refused k q access (recordAt memory (rowIn q)) o → Carries k access memory q memory o
@@ -182,15 +188,26 @@ module _ {k : Kind} {access memory : List ℕ} {q : Query} where
   refuses r = record { outcome = sym (r .comes .is); records = sym (cond-false _ _ (r .refused)) }
 
   -- OK has its effect: for the types that look at no status word
-  pub carries : {row : ℕ} {state next : Record} {memory′ : List ℕ} → isKind k GetStatus ≡ false → isKind k WaitStatus ≡ false
-      → Loaded k q memory row state → Admitted k q access (recordAt memory (rowIn q))
-      → next ≡ effectOf k q state → memory′ ≡ withRecord memory row next
-      → Carries k access memory q memory′ Ok
-  unfolding memoryAfter carriedOut viewIn firstOf byWords wordsMissing waitFailed
-  carries {row} get wait l comes next stored =
-      record {
-        outcome = sym (comes .is ∙ rw (get, wait));
-        records = stored
-            ∙ ap (withRecord memory row) (next ∙ ap (effectOf k q) (l .reached .same))
-            ∙ ap (λ (n : ℕ). withRecord memory n (effectOf k q (recordAt memory (rowIn q)))) (l .reached .here);
-      }
+  module _ {row : ℕ} {state next : Record} {memory′ : List ℕ} (get : isKind k GetStatus ≡ false) (wait : isKind k WaitStatus ≡ false)
+      (l : Loaded k q memory row state) (comes : Admitted k q access (recordAt memory (rowIn q))) (effect : next ≡ effectOf k q state) where
+    carries : memory′ ≡ withRecord memory row next → Carries k access memory q memory′ Ok
+    unfolding memoryAfter carriedOut viewIn firstOf byWords wordsMissing waitFailed
+    carries stored =
+        record {
+          outcome = sym (comes .is ∙ rw (get, wait));
+          records = stored
+              ∙ ap (withRecord memory row) (effect ∙ ap (effectOf k q) (l .reached .same))
+              ∙ ap (λ (n : ℕ). withRecord memory n (effectOf k q (recordAt memory (rowIn q)))) (l .reached .here);
+        }
+
+    -- an effect that keeps the control word is stored in what is the processor's own, and one that keeps that in the control word
+    pub carries-own : ((r : Record) → effectOf k q r .control ≡ r .control) → memory′ ≡ withOwn memory row (ownOf next)
+        → Carries k access memory q memory′ Ok
+    carries-own keeps stored =
+        carries
+        (stored ∙ own-stored memory row next (ap (λ (r : Record). r .control) effect ∙ keeps state ∙ ap (λ (r : Record). r .control) (loaded-is l)))
+
+    pub carries-control : ((r : Record) → ownOf (effectOf k q r) ≡ ownOf r) → memory′ ≡ withControl memory (homeAt ours row) (next .control)
+        → Carries k access memory q memory′ Ok
+    carries-control keeps stored =
+        carries (stored ∙ control-stored memory row next (ap ownOf effect ∙ keeps state ∙ ap ownOf (loaded-is l)))

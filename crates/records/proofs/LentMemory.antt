@@ -9,7 +9,7 @@ use native.Mathlib.Nat.{add-zero, add-suc, suc-add, zero-add, not-suc-le-zero, l
 use native.Mathlib.Numerals.{towards-suc}
 use native.Mathlib.Omega.{arith}
 use lib.ListN.{length, getD, set, replicate, length-set, List·getD-eq-default}
-use lib.Seq.{sets, set-getD, getD-set-same, getD-set-other}
+use lib.Seq.{sets, set-getD, getD-set-same, getD-set-other, set-out}
 use lib.Dec.{ltb}
 use borrow.Author.Tests.{lt-ltb, le-ltb, ltb-true, ltb-false}
 use Rattle.rules.specs.declared.Record.{Record}
@@ -17,10 +17,10 @@ use Rattle.rules.specs.Board.{ours, rows, rowOf, homeAt}
 use Rattle.rules.specs.AccessList.{noEntry, noEntries}
 use Rattle.rules.specs.State.{listed, Own, ownOf, joined, freeOwn, fresh, entryOf, recordIn, recordOf, viewOf, putIn}
 use Rattle.rules.proofs.Tests.{decide}
-use Rattle.rules.proofs.Rows.{row-within, home-within}
+use Rattle.rules.proofs.Rows.{row-within, home-within, home-past}
 use Rattle.access.specs.Memory.{byRow, listedIn, entryAt, entriesIn, someList, setupIn}
 use Rattle.access.proofs.Kept.{listed-some}
-use Rattle.records.specs.Memory.{ownAt, controlPlace, controlAt, recordAt, recordsIn, stateIn, viewIn, withRecord}
+use Rattle.records.specs.Memory.{ownAt, controlPlace, controlAt, recordAt, recordsIn, stateIn, viewIn, withOwn, withControl, withRecord}
 
 -- ---- rows
 
@@ -81,65 +81,65 @@ sets-at (v ∷ vs) l i (suc j) fits h =
     ap (λ (k : ℕ). getD (sets (set l i v) (suc i) vs) k 0) (add-suc i j ∙ sym (suc-add i j))
     ∙ sets-at vs (set l i v) (suc i) j (simp length-set (omega arith)) (le-of-suc-le-suc h)
 
--- ---- a record stored at a row
+-- ---- what is a processor's own, stored at its row
 
--- the words of a row that are its processor's own
+-- its words, in their order
 abbrev wordsOf : Own → List ℕ
 wordsOf o = o .controller ∷ o .low ∷ o .high ∷ o .config ∷ []
-
-stored-is : (m : List ℕ) (row : ℕ) (r : Record) → 5 * row + 4 < length m
-    → withRecord m row r ≡ set (sets m (5 * row) (wordsOf (ownOf r))) (controlPlace (homeAt ours row)) (r .control)
-unfolding withRecord
-stored-is m row r h = rw (lt-ltb (5 * row + 4) (length m) h) (simp towards-suc)
-
--- no word of a row's own is a control word, at whatever home
-own-not-control : (row home j : ℕ) → j < 4 → 5 * row + j ≡ controlPlace home → ⊥
-own-not-control row home j h e = omega arith
 
 sets-length : (vs l : List ℕ) (i : ℕ) → length (sets l i vs) ≡ length l
 sets-length [] l i = refl
 sets-length (v ∷ vs) l i = sets-length vs (set l i v) (suc i) ∙ length-set l i v
 
-module _ (m : List ℕ) (row : ℕ) (r : Record) (fits : 5 * row + 4 < length m) where
-  -- a word of its own, and any word but the one control word, are what the stores of its own words leave
-  but-control : (k : ℕ) → (k ≡ controlPlace (homeAt ours row) → ⊥)
-      → getD (withRecord m row r) k 0 ≡ getD (sets m (5 * row) (wordsOf (ownOf r))) k 0
-  but-control k other =
-      ap (λ (l : List ℕ). getD l k 0) (stored-is m row r fits)
-      ∙ getD-set-other (sets m (5 * row) (wordsOf (ownOf r))) (controlPlace (homeAt ours row)) k (r .control) 0 other
+-- a word before them or behind them stays, a control word among others
+own-beside : (m : List ℕ) (row : ℕ) (o : Own) (k : ℕ) → (k < 5 * row) ⊎ (5 * row + 4 ≤ k) → getD (withOwn m row o) k 0 ≡ getD m k 0
+unfolding withOwn
+own-beside m row o k out =
+    ⊎-elim
+    (λ (t : ltb (5 * row + 4) (length m) ≡ true). rw t (simp towards-suc (sets-other (wordsOf o) m (5 * row) k out)))
+    (λ (f : ltb (5 * row + 4) (length m) ≡ false). rw f)
+    (decide (ltb (5 * row + 4) (length m)))
 
-  at-row : (j : ℕ) → j < 4 → getD (withRecord m row r) (5 * row + j) 0 ≡ getD (wordsOf (ownOf r)) j 0
-  at-row j h =
-      but-control (5 * row + j) (own-not-control row (homeAt ours row) j h)
-      ∙ sets-at (wordsOf (ownOf r)) m (5 * row) j (omega arith) h
+pub own-keeps-control : (m : List ℕ) (row : ℕ) (o : Own) (home : ℕ) → controlAt (withOwn m row o) home ≡ controlAt m home
+own-keeps-control m row o home =
+    own-beside m row o (controlPlace home)
+    (⊎-elim (λ t. inl (let q = ltb-true home row t in omega arith)) (λ f. inr (let q = ltb-false home row f in omega arith))
+    (decide (ltb home row)))
 
-  own-same : ownAt (withRecord m row r) row ≡ ownOf r
-  own-same =
-      λ t.
-      record {
-        controller = (ap (λ (k : ℕ). getD (withRecord m row r) k 0) (sym (add-zero (5 * row))) ∙ at-row 0 (omega arith)) t;
-        low = at-row 1 (omega arith) t;
-        high = at-row 2 (omega arith) t;
-        config = at-row 3 (omega arith) t;
-      }
+-- put where it stands it changes nothing
+pub own-kept : (m : List ℕ) (row : ℕ) → withOwn m row (ownAt m row) ≡ m
+unfolding withOwn
+own-kept m row =
+    ⊎-elim
+    (λ (t : ltb (5 * row + 4) (length m) ≡ true).
+    rw t (rw (set-getD m (5 * row) 0, set-getD m (5 * row + 1) 0, set-getD m (5 * row + 2) 0, set-getD m (5 * row + 3) 0)))
+    (λ (f : ltb (5 * row + 4) (length m) ≡ false). rw f)
+    (decide (ltb (5 * row + 4) (length m)))
 
-  control-same : controlAt (withRecord m row r) (homeAt ours row) ≡ r .control
-  control-same =
-      ap (λ (l : List ℕ). getD l (controlPlace (homeAt ours row)) 0) (stored-is m row r fits)
-      ∙ getD-set-same (sets m (5 * row) (wordsOf (ownOf r))) (controlPlace (homeAt ours row)) (r .control) 0
-      (subst⁻¹ (λ (n : ℕ). controlPlace (homeAt ours row) < n) (sets-length (wordsOf (ownOf r)) m (5 * row))
-      (let home = home-within ours row in omega arith))
+module _ (m : List ℕ) (row : ℕ) (o : Own) where
+  module _ (fits : 5 * row + 4 < length m) where
+    own-is : withOwn m row o ≡ sets m (5 * row) (wordsOf o)
+    unfolding withOwn
+    own-is = rw (lt-ltb (5 * row + 4) (length m) fits) (simp towards-suc)
 
-  pub record-same : recordAt (withRecord m row r) row ≡ r
-  record-same = ap₂ joined own-same control-same
+    at-row : (j : ℕ) → j < 4 → getD (withOwn m row o) (5 * row + j) 0 ≡ getD (wordsOf o) j 0
+    at-row j h = ap (λ (l : List ℕ). getD l (5 * row + j) 0) own-is ∙ sets-at (wordsOf o) m (5 * row) j (omega arith) h
 
-  -- a word outside the row that is not the control word stays
-  off-row : (k : ℕ) → (k ≡ controlPlace (homeAt ours row) → ⊥) → (k < 5 * row) ⊎ (5 * row + 4 ≤ k)
-      → getD (withRecord m row r) k 0 ≡ getD m k 0
-  off-row k other out = but-control k other ∙ sets-other (wordsOf (ownOf r)) m (5 * row) k out
+    own-same : ownAt (withOwn m row o) row ≡ o
+    own-same =
+        λ t.
+        record {
+          controller = (ap (λ (k : ℕ). getD (withOwn m row o) k 0) (sym (add-zero (5 * row))) ∙ at-row 0 (omega arith)) t;
+          low = at-row 1 (omega arith) t;
+          high = at-row 2 (omega arith) t;
+          config = at-row 3 (omega arith) t;
+        }
+
+    own-length : length (withOwn m row o) ≡ length m
+    own-length = ap length own-is ∙ sets-length (wordsOf o) m (5 * row)
 
   -- the words of another row stand before it or behind it
-  beside : (k j : ℕ) → (k ≡ row → ⊥) → j < 5 → (5 * k + j < 5 * row) ⊎ (5 * row + 4 ≤ 5 * k + j)
+  beside : (k j : ℕ) → (k ≡ row → ⊥) → j < 4 → (5 * k + j < 5 * row) ⊎ (5 * row + 4 ≤ 5 * k + j)
   beside k j apart h =
       ⊎-elim (λ t. inl (let q = ltb-true k row t in omega arith))
       (λ f.
@@ -149,15 +149,15 @@ module _ (m : List ℕ) (row : ℕ) (r : Record) (fits : 5 * row + 4 < length m)
       (decide (ltb row k)))
       (decide (ltb k row))
 
-  own-off : (k j : ℕ) → (k ≡ row → ⊥) → j < 4 → getD (withRecord m row r) (5 * k + j) 0 ≡ getD m (5 * k + j) 0
-  own-off k j apart h = off-row (5 * k + j) (own-not-control k (homeAt ours row) j h) (beside k j apart (omega arith))
+  own-off : (k j : ℕ) → (k ≡ row → ⊥) → j < 4 → getD (withOwn m row o) (5 * k + j) 0 ≡ getD m (5 * k + j) 0
+  own-off k j apart h = own-beside m row o (5 * k + j) (beside k j apart h)
 
-  own-other : (k : ℕ) → (k ≡ row → ⊥) → ownAt (withRecord m row r) k ≡ ownAt m k
+  own-other : (k : ℕ) → (k ≡ row → ⊥) → ownAt (withOwn m row o) k ≡ ownAt m k
   own-other k apart =
       λ t.
       record {
         controller =
-            (ap (λ (n : ℕ). getD (withRecord m row r) n 0) (sym (add-zero (5 * k)))
+            (ap (λ (n : ℕ). getD (withOwn m row o) n 0) (sym (add-zero (5 * k)))
             ∙ own-off k 0 apart (omega arith)
             ∙ ap (λ (n : ℕ). getD m n 0) (add-zero (5 * k))) t;
         low = own-off k 1 apart (omega arith) t;
@@ -165,50 +165,86 @@ module _ (m : List ℕ) (row : ℕ) (r : Record) (fits : 5 * row + 4 < length m)
         config = own-off k 3 apart (omega arith) t;
       }
 
-  -- the control word of another home stays, that of the row itself included where it is none
-  control-other : (home : ℕ) → (home ≡ homeAt ours row → ⊥) → controlAt (withRecord m row r) home ≡ controlAt m home
-  control-other home apart =
-      off-row (controlPlace home) (λ e. apart (omega arith))
-      (⊎-elim (λ t. inl (let q = ltb-true home row t in omega arith)) (λ f. inr (let q = ltb-false home row f in omega arith))
-      (decide (ltb home row)))
+-- ---- a control word stored at its home
 
--- the records read after a store are the records before it with that one put there
-pub records-store : (m : List ℕ) (row : ℕ) (r : Record) → length m ≡ 20 → row < 4 → recordsIn (withRecord m row r) ≡ putIn ours (recordsIn m) row r
-unfolding recordsIn putIn
-records-store m row r size h =
-    let fits : 5 * row + 4 < length m = omega arith in
-    let home = homeAt ours row in
-    ap₂ (λ (os : List Own) (words : List ℕ). record { own = os; controls = words })
-    (sym
-    (byRow-set (ownAt m) (ownAt (withRecord m row r)) (ownOf r) (rows ours) 0 row
-    (ap (ownAt (withRecord m row r)) (zero-add row) ∙ own-same m row r fits)
-    (λ k apart. own-other m row r fits k (λ e. apart (e ∙ sym (zero-add row))))))
-    (sym
-    (byRow-set (controlAt m) (controlAt (withRecord m row r)) (r .control) (rows ours) 0 home
-    (ap (controlAt (withRecord m row r)) (zero-add home) ∙ control-same m row r fits)
-    (λ k apart. control-other m row r fits k (λ e. apart (e ∙ sym (zero-add home))))))
+-- no word that is a processor's own is a control word
+own-not-control : (row home j : ℕ) → j < 4 → 5 * row + j ≡ controlPlace home → ⊥
+own-not-control row home j h e = omega arith
 
--- a row that is not there is not stored to
-pub records-kept : (m : List ℕ) (row : ℕ) (r : Record) → length m ≡ 20 → 4 ≤ row → withRecord m row r ≡ m
+control-keeps-own : (m : List ℕ) (home word k : ℕ) → ownAt (withControl m home word) k ≡ ownAt m k
+control-keeps-own m home word k =
+    λ t.
+    record {
+      controller =
+          getD-set-other m (controlPlace home) (5 * k) word 0 (λ e. own-not-control k home 0 (omega arith) (add-zero (5 * k) ∙ e)) t;
+      low = getD-set-other m (controlPlace home) (5 * k + 1) word 0 (own-not-control k home 1 (omega arith)) t;
+      high = getD-set-other m (controlPlace home) (5 * k + 2) word 0 (own-not-control k home 2 (omega arith)) t;
+      config = getD-set-other m (controlPlace home) (5 * k + 3) word 0 (own-not-control k home 3 (omega arith)) t;
+    }
+
+control-other : (m : List ℕ) (home word k : ℕ) → (k ≡ home → ⊥) → controlAt (withControl m home word) k ≡ controlAt m k
+control-other m home word k apart = getD-set-other m (controlPlace home) (controlPlace k) word 0 (λ e. apart (omega arith))
+
+-- ---- a record stored: what is its own at its row, the control word at its home
+
+-- a record whose control word is the one that stands, and one of which only the control word differs
+pub own-stored : (m : List ℕ) (row : ℕ) (r : Record) → r .control ≡ controlAt m (homeAt ours row) → withOwn m row (ownOf r) ≡ withRecord m row r
 unfolding withRecord
-records-kept m row r size h = rw (le-ltb (5 * row + 4) (length m) (omega arith))
+own-stored m row r stands =
+    let left = withOwn m row (ownOf r) in
+    sym (set-getD left (controlPlace (homeAt ours row)) 0)
+    ∙ ap (withControl left (homeAt ours row)) (own-keeps-control m row (ownOf r) (homeAt ours row) ∙ sym stands)
+
+pub control-stored : (m : List ℕ) (row : ℕ) (r : Record) → ownOf r ≡ ownAt m row → withControl m (homeAt ours row) (r .control) ≡ withRecord m row r
+unfolding withRecord
+control-stored m row r stands =
+    ap (λ (l : List ℕ). withControl l (homeAt ours row) (r .control)) (sym (own-kept m row) ∙ ap (withOwn m row) (sym stands))
 
 -- a record put where it stands changes nothing
 pub store-same : (m : List ℕ) (row : ℕ) → withRecord m row (recordAt m row) ≡ m
-unfolding withRecord
-store-same m row =
-    ⊎-elim
-    (λ (t : ltb (5 * row + 4) (length m) ≡ true).
-    rw t
-    (rw (
-      set-getD m (5 * row) 0,
-      set-getD m (5 * row + 1) 0,
-      set-getD m (5 * row + 2) 0,
-      set-getD m (5 * row + 3) 0,
-      set-getD m (5 * homeAt ours row + 4) 0,
-    )))
-    (λ (f : ltb (5 * row + 4) (length m) ≡ false). rw f)
-    (decide (ltb (5 * row + 4) (length m)))
+store-same m row = sym (own-stored m row (recordAt m row) refl) ∙ own-kept m row
+
+module _ (m : List ℕ) (row : ℕ) (r : Record) (fits : 5 * row + 4 < length m) where
+  control-same : controlAt (withRecord m row r) (homeAt ours row) ≡ r .control
+  unfolding withRecord
+  control-same =
+      getD-set-same (withOwn m row (ownOf r)) (controlPlace (homeAt ours row)) (r .control) 0
+      (subst⁻¹ (λ (n : ℕ). controlPlace (homeAt ours row) < n) (own-length m row (ownOf r) fits)
+      (let home = home-within ours row in omega arith))
+
+  own-put : ownAt (withRecord m row r) row ≡ ownOf r
+  unfolding withRecord
+  own-put = control-keeps-own (withOwn m row (ownOf r)) (homeAt ours row) (r .control) row ∙ own-same m row (ownOf r) fits
+
+  pub record-same : recordAt (withRecord m row r) row ≡ r
+  record-same = ap₂ joined own-put control-same
+
+-- the records read after a store are the records before it with that one put there
+pub records-store : (m : List ℕ) (row : ℕ) (r : Record) → length m ≡ 20 → row < 4 → recordsIn (withRecord m row r) ≡ putIn ours (recordsIn m) row r
+unfolding recordsIn putIn withRecord
+records-store m row r size h =
+    let fits : 5 * row + 4 < length m = omega arith in
+    let home = homeAt ours row in
+    let left = withOwn m row (ownOf r) in
+    ap₂ (λ (os : List Own) (words : List ℕ). record { own = os; controls = words })
+    (sym
+    (byRow-set (ownAt m) (ownAt (withRecord m row r)) (ownOf r) (rows ours) 0 row
+    (ap (ownAt (withRecord m row r)) (zero-add row) ∙ own-put m row r fits)
+    (λ k apart.
+    control-keeps-own left home (r .control) k ∙ own-other m row (ownOf r) k (λ e. apart (e ∙ sym (zero-add row))))))
+    (sym
+    (byRow-set (controlAt m) (controlAt (withRecord m row r)) (r .control) (rows ours) 0 home
+    (ap (controlAt (withRecord m row r)) (zero-add home) ∙ control-same m row r fits)
+    (λ k apart.
+    control-other left home (r .control) k (λ e. apart (e ∙ sym (zero-add home))) ∙ own-keeps-control m row (ownOf r) k)))
+
+-- a row that is not there is not stored to
+pub records-kept : (m : List ℕ) (row : ℕ) (r : Record) → length m ≡ 20 → 4 ≤ row → withRecord m row r ≡ m
+unfolding withRecord withOwn rows ours
+records-kept m row r size h =
+    rw (le-ltb (5 * row + 4) (length m) (omega arith))
+    (set-out m (controlPlace (homeAt ours row)) (r .control)
+    (subst⁻¹ (λ (n : ℕ). length m ≤ controlPlace n) (home-past ours row h) (omega arith)))
 
 -- ---- what a call sees
 

@@ -9,7 +9,7 @@ use lib.Dec.{ltb}
 use Rattle.rules.specs.declared.Record.{Record}
 use Rattle.rules.specs.Board.{ours, rows, homeAt}
 use Rattle.rules.specs.Outcome.{View}
-use Rattle.rules.specs.State.{Own, Records, State, joined}
+use Rattle.rules.specs.State.{Own, Records, State, ownOf, joined}
 use Rattle.access.specs.Memory.{byRow, setupIn, keptSetup, viewWith}
 
 -- the place of a row's first word
@@ -52,18 +52,23 @@ kept s = record { setup = keptSetup (s .setup); records = s .records }
 unfoldable pub viewIn : List ℕ → List ℕ → ℕ → View
 viewIn access records row = viewWith access row (recordAt records row)
 
--- the record memory with a record put at a row, the control word at its home; a row that is not there is left alone
-unfoldable pub withRecord : List ℕ → ℕ → Record → List ℕ
-withRecord m row r =
+-- the record memory with what is a processor's own put at its row; a row that is not there is left alone
+unfoldable pub withOwn : List ℕ → ℕ → Own → List ℕ
+withOwn m row own =
     cond (ltb (recordPlace row + 4) (length m))
     (set
     (set
-    (set
-    (set (set m (recordPlace row) (r .controller)) (recordPlace row + 1) (r .low))
+    (set (set m (recordPlace row) (own .controller)) (recordPlace row + 1) (own .low))
     (recordPlace row + 2)
-    (r .high))
+    (own .high))
     (recordPlace row + 3)
-    (r .config))
-    (controlPlace (homeAt ours row))
-    (r .control))
+    (own .config))
     m
+
+-- with a control word put at a home
+abbrev pub withControl : List ℕ → ℕ → ℕ → List ℕ
+withControl m home word = set m (controlPlace home) word
+
+-- and with a whole record
+unfoldable pub withRecord : List ℕ → ℕ → Record → List ℕ
+withRecord m row r = withControl (withOwn m row (ownOf r)) (homeAt ours row) (r .control)

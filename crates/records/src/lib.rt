@@ -1,10 +1,11 @@
-// The processors' records: one record by value, out of the lent record memory and back into it. Its
-// layout is specs/Memory.antt; any content of it is a state.
-ghost use Prim.Native.Nat.{_≤_};
+// The processors' records: one record by value, out of the lent record memory and back into it, the
+// control word apart from what is the processor's own. Its layout is specs/Memory.antt; any content of
+// it is a state.
 ghost use mathlib.Core.Path.{_≡_};
 ghost use lib.ListN.{getD};
 ghost use Rattle.rules.specs.Board.{ours, homeAt};
-ghost use Rattle.records.specs.Memory.{controlPlace, recordAt, withRecord};
+ghost use Rattle.rules.specs.State.{ownOf};
+ghost use Rattle.records.specs.Memory.{controlPlace, recordAt, withOwn, withControl};
 use board::home_at;
 use rules::Record;
 
@@ -18,10 +19,9 @@ fn word_at(records: &[u32], i: usize) -> u32
     0
 }
 
-// The place of the control word of the processor at `row`: at its home, which its cluster shares and
-// which is that row or one before it.
+// The place of the control word of the processor at `row`: at its home, which its cluster shares.
 fn control_place(row: u8) -> usize
-    ensures { λ r. ⌜ (r ≡ controlPlace (homeAt ours row)) × (r ≤ controlPlace row) ⌝ }
+    ensures { λ r. ⌜ r ≡ controlPlace (homeAt ours row) ⌝ }
 {
     5 * (home_at(row) as usize) + 4
 }
@@ -40,17 +40,26 @@ pub fn load(records: &[u32], row: u8) -> Record
     }
 }
 
-// Puts a record at `row`, and its control word at the home. A row that is not there is left alone.
-pub fn store(records: &mut [u32], row: u8, state: Record)
-    ensures { λ _. ⌜ now (records .exit) ≡ withRecord (now (records .entry)) row state ⌝ }
+// Puts all of a record but its control word at `row`. A row that is not there is left alone.
+pub fn store_own(records: &mut [u32], row: u8, state: Record)
+    ensures { λ _. ⌜ now (records .exit) ≡ withOwn (now (records .entry)) row (ownOf state) ⌝ }
 {
     let at = 5 * (row as usize);
-    let word = control_place(row);
     if at + 4 < records.len() {
         records[at] = state.controller;
         records[at + 1] = state.low;
         records[at + 2] = state.high;
         records[at + 3] = state.config;
-        records[word] = state.control;
+    }
+}
+
+// Puts the control word of the processor at `row`, and so of its cluster, at the home. A home that is
+// not there is left alone.
+pub fn store_control(records: &mut [u32], row: u8, control: u32)
+    ensures { λ _. ⌜ now (records .exit) ≡ withControl (now (records .entry)) (homeAt ours row) control ⌝ }
+{
+    let place = control_place(row);
+    if place < records.len() {
+        records[place] = control;
     }
 }

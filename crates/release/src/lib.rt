@@ -8,7 +8,7 @@ use board::ROWS;
 use effects::held_by;
 use operations::row_in;
 use records::load;
-use records::store;
+use records::store_own;
 use rights::is_controller;
 use rules::Outcome;
 
@@ -27,6 +27,6 @@ pub fn release(records: &mut [u32], channel: u8, message: &[u8]) -> Outcome
     if !is_controller(state, channel) {
         return Outcome::N7;
     }
-    store(records, row, held_by(0, state));
+    store_own(records, row, held_by(0, state));
     Outcome::Ok
 }

@@ -8,7 +8,7 @@ use board::ROWS;
 use effects::held_by;
 use operations::row_in;
 use records::load;
-use records::store;
+use records::store_own;
 use rights::may_request;
 use rules::Outcome;
 
@@ -28,6 +28,6 @@ pub fn request(access: &[u16], records: &mut [u32], channel: u8, message: &[u8])
     if !may_request(access, row, state, channel) {
         return Outcome::N7;
     }
-    store(records, row, held_by(channel, state));
+    store_own(records, row, held_by(channel, state));
     Outcome::Ok
 }

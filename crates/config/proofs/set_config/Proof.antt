@@ -6,7 +6,7 @@ use Rattle.rules.specs.declared.Kind.the-variants.{SetConfig}
 use Rattle.rules.specs.Message.{Query}
 use Rattle.rules.specs.Outcome.{configGood}
 use Rattle.operations.specs.Operation.{asked}
-use Rattle.operations.proofs.Rows.{Loaded, loaded-at, too-short, off-board, lacks-right, by-class, wrong-operands, admitted, refuses, carries}
+use Rattle.operations.proofs.Rows.{Loaded, loaded-at, too-short, off-board, lacks-right, by-class, wrong-operands, admitted, refuses, carries-own}
 use borrow.Author.Needs.{needs}
 use Rattle.config.proofs.set_config.Statement.{statement}
 use Rattle.config.proofs.set_config.Tie as tie
@@ -66,8 +66,8 @@ returns-4 c access =
 with-config-requires : tie.Need-with-config-requires
 with-config-requires c κs = search needs
 
-store-requires : tie.Need-store-requires
-store-requires c κs = search needs
+store-own-requires : tie.Need-store-own-requires
+store-own-requires c κs = search needs
 
 same-length-3 : tie.Need-same-length-3
 same-length-3 c = search needs
@@ -76,12 +76,13 @@ returns-5 : tie.Need-returns-5
 returns-5 c access =
     let d = c .before .before .before .before .before in
     let l = at-N7 (d .before .before .before .before .before) in
-    carries refl refl l
+    carries-own refl refl l
     (admitted (l .reached) (d .before .before .before .before .is-controller .ensures) (d .before .before .before .if3 .left)
     (by-class (l .reached) configGood (d .before .before .class-at .ensures) (d .before .config-good .ensures))
     (d .if4 .left))
     (c .before .before .before .with-config .ensures)
-    (c .before .before .store .ensures)
+    (λ r. refl)
+    (c .before .before .store-own .ensures)
 
 pub set-config-spec : {M : Type 1} → statement M
 set-config-spec =
@@ -99,6 +100,6 @@ set-config-spec =
     same-length-2
     returns-4
     with-config-requires
-    store-requires
+    store-own-requires
     same-length-3
     returns-5)

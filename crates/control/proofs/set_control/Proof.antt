@@ -6,7 +6,7 @@ use Rattle.rules.specs.declared.Kind.the-variants.{SetControl}
 use Rattle.rules.specs.Message.{Query}
 use Rattle.rules.specs.Outcome.{controlGood}
 use Rattle.operations.specs.Operation.{asked}
-use Rattle.operations.proofs.Rows.{Loaded, loaded-at, too-short, off-board, lacks-right, by-class, wrong-operands, admitted, refuses, carries}
+use Rattle.operations.proofs.Rows.{Loaded, loaded-at, too-short, off-board, lacks-right, by-class, wrong-operands, admitted, refuses, carries-control}
 use borrow.Author.Needs.{needs}
 use Rattle.control.proofs.set_control.Statement.{statement}
 use Rattle.control.proofs.set_control.Tie as tie
@@ -66,8 +66,8 @@ returns-4 c access =
 with-control-requires : tie.Need-with-control-requires
 with-control-requires c κs = search needs
 
-store-requires : tie.Need-store-requires
-store-requires c κs = search needs
+store-control-requires : tie.Need-store-control-requires
+store-control-requires c κs = search needs
 
 same-length-3 : tie.Need-same-length-3
 same-length-3 c = search needs
@@ -76,12 +76,13 @@ returns-5 : tie.Need-returns-5
 returns-5 c access =
     let d = c .before .before .before .before .before in
     let l = at-N7 (d .before .before .before .before .before) in
-    carries refl refl l
+    carries-control refl refl l
     (admitted (l .reached) (d .before .before .before .before .is-controller .ensures) (d .before .before .before .if3 .left)
     (by-class (l .reached) controlGood (d .before .before .class-at .ensures) (d .before .control-good .ensures))
     (d .if4 .left))
-    (c .before .before .before .with-control .ensures)
-    (c .before .before .store .ensures)
+    (c .before .before .before .before .with-control .ensures)
+    (λ r. refl)
+    (c .before .before .store-control .ensures)
 
 pub set-control-spec : {M : Type 1} → statement M
 set-control-spec =
@@ -99,6 +100,6 @@ set-control-spec =
     same-length-2
     returns-4
     with-control-requires
-    store-requires
+    store-control-requires
     same-length-3
     returns-5)

@@ -10,7 +10,7 @@ use Rattle.rules.specs.Message.{Query, newHostOf}
 use Rattle.rules.specs.Effect.{heldBy}
 use Rattle.access.specs.Memory.{entryAt}
 use Rattle.operations.specs.Operation.{asked}
-use Rattle.operations.proofs.Rows.{Loaded, loaded-at, too-short, off-board, lacks-right, wrong-operands, admitted, refuses, carries}
+use Rattle.operations.proofs.Rows.{Loaded, loaded-at, too-short, off-board, lacks-right, wrong-operands, admitted, refuses, carries-own}
 use borrow.Author.Needs.{needs}
 use Rattle.handover.proofs.handover.Statement.{statement}
 use Rattle.handover.proofs.handover.Tie as tie
@@ -80,8 +80,8 @@ returns-4 c =
 held-by-requires : tie.Need-held-by-requires
 held-by-requires c κs = search needs
 
-store-requires : tie.Need-store-requires
-store-requires c κs = search needs
+store-own-requires : tie.Need-store-own-requires
+store-own-requires c κs = search needs
 
 same-length-3 : tie.Need-same-length-3
 same-length-3 c = search needs
@@ -91,12 +91,13 @@ returns-5 c =
     let d = c .before .before .before .before .before in
     let l = at-N7 (d .before .before .before .before .before) in
     let host = d .before .before .byte-at .ensures in
-    carries refl refl l
+    carries-own refl refl l
     (admitted (l .reached) (d .before .before .before .before .is-controller .ensures) (d .before .before .before .if3 .left)
     (new-host (d .before))
     (d .if4 .left))
     (c .before .before .before .held-by .ensures ∙ ap (λ (h : ℕ). heldBy h (d .before .before .before .before .before .load .result)) host)
-    (c .before .before .store .ensures)
+    (λ r. refl)
+    (c .before .before .store-own .ensures)
 
 pub handover-spec : {M : Type 1} → statement M
 handover-spec =
@@ -115,6 +116,6 @@ handover-spec =
     same-length-2
     returns-4
     held-by-requires
-    store-requires
+    store-own-requires
     same-length-3
     returns-5)

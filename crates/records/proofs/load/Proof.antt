@@ -41,7 +41,7 @@ returns c =
       c .before .before .before .word-at3 .ensures,
       c .before .before .word-at4 .ensures,
       c .word-at5 .ensures,
-      c .before .control-place .ensures .0,
+      c .before .control-place .ensures,
     )
 
 pub load-spec : {M : Type 1} → statement M

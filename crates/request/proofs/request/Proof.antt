@@ -5,7 +5,7 @@ use denote.Ref.{now}
 use Rattle.rules.specs.declared.Kind.the-variants.{Request}
 use Rattle.rules.specs.Message.{Query}
 use Rattle.operations.specs.Operation.{asked}
-use Rattle.operations.proofs.Rows.{Loaded, loaded-at, too-short, off-board, lacks-right, admitted, refuses, carries}
+use Rattle.operations.proofs.Rows.{Loaded, loaded-at, too-short, off-board, lacks-right, admitted, refuses, carries-own}
 use borrow.Author.Needs.{needs}
 use Rattle.request.proofs.request.Statement.{statement}
 use Rattle.request.proofs.request.Tie as tie
@@ -48,8 +48,8 @@ returns-3 c =
 held-by-requires : tie.Need-held-by-requires
 held-by-requires c κs = search needs
 
-store-requires : tie.Need-store-requires
-store-requires c κs = search needs
+store-own-requires : tie.Need-store-own-requires
+store-own-requires c κs = search needs
 
 same-length-2 : tie.Need-same-length-2
 same-length-2 c = search needs
@@ -58,10 +58,11 @@ returns-4 : tie.Need-returns-4
 returns-4 c =
     let d = c .before .before .before .before .before in
     let l = at-N7 (d .before .before) in
-    carries refl refl l
+    carries-own refl refl l
     (admitted (l .reached) (d .before .may-request .ensures) (d .if3 .left) refl refl)
     (c .before .before .before .held-by .ensures)
-    (c .before .before .store .ensures)
+    (λ r. refl)
+    (c .before .before .store-own .ensures)
 
 pub request-spec : {M : Type 1} → statement M
 request-spec =
@@ -75,6 +76,6 @@ request-spec =
     same-length
     returns-3
     held-by-requires
-    store-requires
+    store-own-requires
     same-length-2
     returns-4)

@@ -1,17 +1,14 @@
--- `memory::store` meets its contract. Assumes nothing.
+-- `records::store_own` meets its contract. Assumes nothing.
 use borrow.Author.Tests.{lt-ltb, le-ltb}
-use Rattle.records.specs.Memory.{withRecord}
+use Rattle.records.specs.Memory.{withOwn}
 use native.Mathlib.Omega.{arith}
 use lib.ListN.{length-set}
 use borrow.Author.Needs.{needs}
-use Rattle.records.proofs.store.Statement.{statement}
-use Rattle.records.proofs.store.Tie as tie
+use Rattle.records.proofs.store_own.Statement.{statement}
+use Rattle.records.proofs.store_own.Tie as tie
 
 mul-at : tie.Need-mul-at
 mul-at c = search needs
-
-control-place-requires : tie.Need-control-place-requires
-control-place-requires c κs = search needs
 
 add-if1 : tie.Need-add-if1
 add-if1 c = search needs
@@ -49,29 +46,22 @@ mul-records-4 c = search needs
 slice-write-records-4 : tie.Need-slice-write-records-4
 slice-write-records-4 c = simp length-set (omega arith)
 
-mul-records-5 : tie.Need-mul-records-5
-mul-records-5 c = search needs
-
-slice-write-records-5 : tie.Need-slice-write-records-5
-slice-write-records-5 c = simp length-set (omega arith)
-
 same-length : tie.Need-same-length
 same-length c = simp length-set
 
 returns : tie.Need-returns
-unfolding withRecord
-returns c = rw (lt-ltb _ _ (c .if1 .taken), c .before .control-place .ensures .0)
+unfolding withOwn
+returns c = rw (lt-ltb _ _ (c .if1 .taken))
 
 returns-2 : tie.Need-returns-2
-unfolding withRecord
+unfolding withOwn
 returns-2 c = rw (le-ltb _ _ (c .if1 .left))
 
-pub store-spec : {M : Type 1} → statement M
-store-spec =
+pub store-own-spec : {M : Type 1} → statement M
+store-own-spec =
     tie.close
     (tie.spec
     mul-at
-    control-place-requires
     add-if1
     mul-records
     slice-write-records
@@ -84,8 +74,6 @@ store-spec =
     add-records-3
     mul-records-4
     slice-write-records-4
-    mul-records-5
-    slice-write-records-5
     same-length
     returns
     returns-2)
