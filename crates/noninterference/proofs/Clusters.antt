@@ -7,8 +7,8 @@ use mathlib.Core.List.{List, [], _∷_}
 use native.Mathlib.Omega.{arith}
 use Rattle.rules.specs.declared.Record.{Record}
 use Rattle.rules.specs.Table.{firstOf, anyOf, allOf, placeOf}
-use Rattle.rules.specs.Board.{Board, ours, boardHost, activeHost, rows, rowOf, onBoard, classAt, classOf, clusterAt, homeAt, homeOf, shareControl, maskOf}
-use Rattle.rules.specs.AccessList.{noEntry, partsFrom, namedIn, entryTable, entriesTable, listTable, verdictOf, accepted, entryIn, withPart, withParts, noEntries, entriesOf, hasEntry, isMaster, isSecondary, permitted}
+use Rattle.rules.specs.Board.{Board, ours, boardHost, activeHost, rows, rowOf, onBoard, classAt, classOf, clusterAt, clusterOf, shareControl, homeAt, maskOf}
+use Rattle.rules.specs.AccessList.{noEntry, parts, partsFrom, namedIn, entryTable, entriesTable, listTable, verdictOf, accepted, entryIn, withPart, withParts, noEntries, entriesOf, hasEntry, isMaster, isSecondary, permitted}
 use Rattle.rules.specs.Message.{kindOf, namesProcessor, subjectOf, isAbout}
 use Rattle.rules.specs.Outcome.{senderWrong, wordsMissing, waitFailed, admission, byWords, outcomeTable, outcomeOf, carriedOut}
 use Rattle.rules.specs.Effect.{recordAfter}
@@ -23,15 +23,15 @@ use Rattle.noninterference.proofs.Theorem.{freshly-loaded}
 -- ---- which choices there are
 
 -- {1}, {32, 33} and all four hold the cluster whole or not at all; {32} alone does not, nor does {33}
-whole-choices :
+pub whole-choices :
     (clustersWhole ours (1 ∷ []) ≡ true)
     × (clustersWhole ours (32 ∷ 33 ∷ []) ≡ true)
     × (clustersWhole ours (1 ∷ 2 ∷ 32 ∷ 33 ∷ []) ≡ true)
-unfolding clustersWhole anyOf allOf ours placeOf rowOf clusterAt homeAt homeOf shareControl
+unfolding clustersWhole anyOf allOf ours placeOf rowOf clusterAt clusterOf shareControl
 whole-choices = (refl, refl, refl)
 
-half-choices : (clustersWhole ours (32 ∷ []) ≡ false) × (clustersWhole ours (33 ∷ []) ≡ false)
-unfolding clustersWhole anyOf allOf ours placeOf rowOf clusterAt homeAt homeOf shareControl
+pub half-choices : (clustersWhole ours (32 ∷ []) ≡ false) × (clustersWhole ours (33 ∷ []) ≡ false)
+unfolding clustersWhole anyOf allOf ours placeOf rowOf clusterAt clusterOf shareControl
 half-choices = (refl, refl)
 
 -- ---- a list that names all four
@@ -43,14 +43,22 @@ start-board : start .setup .board ≡ ours
 unfolding firstOf anyOf ours boardHost activeHost placeOf rows rowOf onBoard partsFrom namedIn entryTable entriesTable listTable verdictOf accepted listed fresh verdictTo taken afterOffer
 start-board = refl
 
--- demand 3 holds for the four, and for the cluster
-pub all-four : Noninterference start (1 ∷ 2 ∷ 32 ∷ 33 ∷ [])
+-- demand 3 holds for each choice from it that holds the cluster whole or not at all
+held : (chosen : List ℕ) → allOf (namedIn (parts clusterList)) chosen ≡ true → clustersWhole ours chosen ≡ true → Noninterference start chosen
 unfolding firstOf anyOf allOf ours boardHost activeHost placeOf rows rowOf onBoard partsFrom namedIn entryTable entriesTable listTable verdictOf accepted
-all-four = freshly-loaded ours clusterList (1 ∷ 2 ∷ 32 ∷ 33 ∷ []) refl refl (whole-choices .2)
+held chosen named whole = freshly-loaded ours clusterList chosen refl named whole
+
+pub one-alone : Noninterference start (1 ∷ [])
+unfolding anyOf allOf partsFrom namedIn
+one-alone = held (1 ∷ []) refl (whole-choices .0)
 
 pub the-cluster : Noninterference start (32 ∷ 33 ∷ [])
-unfolding firstOf anyOf allOf ours boardHost activeHost placeOf rows rowOf onBoard partsFrom namedIn entryTable entriesTable listTable verdictOf accepted
-the-cluster = freshly-loaded ours clusterList (32 ∷ 33 ∷ []) refl refl (whole-choices .1)
+unfolding anyOf allOf partsFrom namedIn
+the-cluster = held (32 ∷ 33 ∷ []) refl (whole-choices .1)
+
+pub all-four : Noninterference start (1 ∷ 2 ∷ 32 ∷ 33 ∷ [])
+unfolding anyOf allOf partsFrom namedIn
+all-four = held (1 ∷ 2 ∷ 32 ∷ 33 ∷ []) refl (whole-choices .2)
 
 -- 32 alone is no such choice
 pub half-not-ready : Ready start (32 ∷ []) → ⊥

@@ -4,7 +4,7 @@ use Prim.Native.Nat.{ℕ}
 use mathlib.Core.Path.{_≡_, refl}
 use mathlib.Core.List.{List, [], _∷_}
 use Rattle.rules.specs.Table.{firstOf, anyOf, allOf, placeOf}
-use Rattle.rules.specs.Board.{ours, boardHost, activeHost, rows, rowOf, onBoard, clusterAt, homeAt, homeOf, shareControl}
+use Rattle.rules.specs.Board.{ours, boardHost, activeHost, rows, rowOf, onBoard, clusterAt, clusterOf, shareControl}
 use Rattle.rules.specs.AccessList.{noEntry, partsFrom, namedIn, entryTable, entriesTable, listTable, verdictOf, accepted, entryIn, withPart, withParts, noEntries, entriesOf, hasEntry, isMaster, isSecondary, permitted}
 use Rattle.rules.specs.Message.{kindOf, namesProcessor, subjectOf, isAbout}
 use Rattle.rules.specs.State.{listed, State, fresh, entryOf}
@@ -22,7 +22,7 @@ abbrev start : State
 start = afterOffer (fresh ours) (list benchList)
 
 pub on-the-bench : Noninterference start bothR5
-unfolding firstOf anyOf allOf ours boardHost activeHost placeOf rows rowOf onBoard clusterAt homeAt homeOf shareControl partsFrom namedIn entryTable entriesTable listTable verdictOf accepted clustersWhole
+unfolding firstOf anyOf allOf ours boardHost activeHost placeOf rows rowOf onBoard clusterAt clusterOf shareControl partsFrom namedIn entryTable entriesTable listTable verdictOf accepted clustersWhole
 on-the-bench = freshly-loaded ours benchList bothR5 refl refl refl
 
 -- host 3 takes processor 1, sets its vector and hands it over to 5

@@ -19,7 +19,7 @@ use Rattle.rules.specs.State.{listed, Setup, State, ownOf, joined, freeOwn, ent
 use Rattle.rules.specs.Call.{Offer, afterOffer, afterMessage, answerTo, Call, offer, message, next}
 use Rattle.rules.specs.Sequence.{permittedFor, freeOrPermitted, Sound}
 use Rattle.rules.proofs.Tests.{decide, clash, and-right, and-both, or-cases, anyOf-member, anyOf-find, allOf-member, set-alike}
-use Rattle.rules.proofs.Rows.{row-one, board-member}
+use Rattle.rules.proofs.Rows.{row-one, board-member, share-home}
 use Rattle.rules.proofs.Rights.{allowed, sender-permitted, carried-about, about-names}
 use Rattle.rules.proofs.Sound.{offer-kept, message-refused, stored-other, sound-next}
 use Rattle.noninterference.specs.Statement.{clustersWhole, insider, aboutChosen, picked}
@@ -104,7 +104,7 @@ module _ (setup : Setup) (chosen : List ℕ) (something : listed (setup .source)
         let unshared : shareControl b p x ≡ false =
         ⊎-elim (λ shared. clash (sharer-chosen b chosen whole-here p x m on shared) elsewhere) (λ f. f) (decide (shareControl b p x))
         in
-        stored-other s x (recordAfter (viewOf s x) q) p apart unshared)
+        stored-other s x (recordAfter (viewOf s x) q) p apart (sym (share-home b p x on) ∙ unshared))
         (λ refused. ap (λ (t : State). recordOf t p) (message-refused s q refused))
         (decide (carriedOut (outcomeOf (viewOf s x) q)))
 

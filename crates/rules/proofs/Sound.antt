@@ -11,7 +11,7 @@ use lib.Dec.{eqb, ltb}
 use borrow.Author.Tests.{eqb-true, eqb-false, ltb-true, ltb-false}
 use Rattle.rules.specs.declared.Record.{Record}
 use Rattle.rules.specs.Table.{firstOf}
-use Rattle.rules.specs.Board.{Board, rows, rowOf, homeAt, homeOf, shareControl}
+use Rattle.rules.specs.Board.{Board, rows, rowOf, homeAt, homeOf}
 use Rattle.rules.specs.AccessList.{noEntry, listTable, verdictOf, accepted}
 use Rattle.rules.specs.Message.{Query, subjectOf}
 use Rattle.rules.specs.Outcome.{outcomeOf, carriedOut}
@@ -63,7 +63,7 @@ message-unlisted s q e =
     ⊎-elim (λ ok. clash (allowed (viewOf s (subjectOf q)) q ok .listed) e) (λ refused. message-refused s q refused)
     (decide (carriedOut (outcomeOf (viewOf s (subjectOf q)) q)))
 
--- a record stored for x keeps what is p's own where their rows differ, and p's control word where they share none
+-- a record stored for x keeps what is p's own where their rows differ, and p's control word where their homes do
 module _ (s : State) (x : ℕ) (r : Record) (p : ℕ) where
   own-other : eqb (rowOf (s .setup .board) p) (rowOf (s .setup .board) x) ≡ false
       → getD (stored s x r .records .own) (rowOf (s .setup .board) p) freeOwn ≡ getD (s .records .own) (rowOf (s .setup .board) p) freeOwn
@@ -72,13 +72,13 @@ module _ (s : State) (x : ℕ) (r : Record) (p : ℕ) where
       getD-set-other (s .records .own) (rowOf (s .setup .board) x) (rowOf (s .setup .board) p) (ownOf r) freeOwn
       (eqb-false (rowOf (s .setup .board) p) (rowOf (s .setup .board) x) apart)
 
-  pub stored-other : eqb (rowOf (s .setup .board) p) (rowOf (s .setup .board) x) ≡ false → shareControl (s .setup .board) p x ≡ false
+  pub stored-other : eqb (rowOf (s .setup .board) p) (rowOf (s .setup .board) x) ≡ false → eqb (homeOf (s .setup .board) p) (homeOf (s .setup .board) x) ≡ false
       → recordOf (stored s x r) p ≡ recordOf s p
-  unfolding recordOf recordIn stored putIn shareControl homeOf
-  stored-other apart unshared =
+  unfolding recordOf recordIn stored putIn homeOf
+  stored-other apart elsewhere =
       ap₂ joined (own-other apart)
       (getD-set-other (s .records .controls) (homeOf (s .setup .board) x) (homeOf (s .setup .board) p) (r .control) 0
-      (eqb-false (homeOf (s .setup .board) p) (homeOf (s .setup .board) x) unshared))
+      (eqb-false (homeOf (s .setup .board) p) (homeOf (s .setup .board) x) elsewhere))
 
 -- every processor that was held by a permitted host or by none still is
 held-after : (s : State) (q : Query) (p : ℕ) → freeOrPermitted (s .setup) p (recordOf s p) ≡ true

@@ -82,23 +82,24 @@ classAt b row = getD (map (λ (x : Processor). x .class) (b .processors)) row r5
 unfoldable pub classOf : Board → ℕ → ℕ
 classOf b p = classAt b (rowOf b p)
 
--- the cluster of the processor at a row, 0 for none
+-- the cluster of the processor at a row, and of processor p; 0 for none
 unfoldable pub clusterAt : Board → ℕ → ℕ
 clusterAt b row = getD (map (λ (x : Processor). x .cluster) (b .processors)) row 0
 
--- document 02, L4: the processors of a cluster have one control word. It is kept at the row of the cluster's first processor, their home;
--- the home of a processor that is alone is its own row
+unfoldable pub clusterOf : Board → ℕ → ℕ
+clusterOf b p = clusterAt b (rowOf b p)
+
+-- document 02, L4: which processors share a control word: those of one cluster, and each with itself
+unfoldable pub shareControl : Board → ℕ → ℕ → Bool
+shareControl b p r = eqb p r || not (eqb (clusterOf b p) 0) && eqb (clusterOf b p) (clusterOf b r)
+
+-- the home of a control word, where it is kept: the row of the cluster's first processor; that of a processor alone is its own row
 unfoldable pub homeAt : Board → ℕ → ℕ
 homeAt b row =
     cond (eqb (clusterAt b row) 0) row (placeOf (λ (x : Processor). eqb (clusterAt b row) (x .cluster)) (b .processors))
 
--- the home of the control word of processor p
 unfoldable pub homeOf : Board → ℕ → ℕ
 homeOf b p = homeAt b (rowOf b p)
-
--- which processors share a control word: those with one home
-unfoldable pub shareControl : Board → ℕ → ℕ → Bool
-shareControl b p r = eqb (homeOf b p) (homeOf b r)
 
 -- the words of a record that hold flags, as places in a row of the table of flag bits
 abbrev pub configWord : ℕ

@@ -1,5 +1,5 @@
 -- The theorem is not empty: the bench list is accepted over memories of zeros, a request of host 3 follows, and both steps meet their
--- contracts. Assumes nothing.
+-- contracts; the theorem applies to it, and to a list that names a cluster. Assumes nothing.
 use Prim.Native.Nat.{ℕ}
 use mathlib.Core.Path.{refl}
 use mathlib.Core.List.{List, [], _∷_, _++_}
@@ -7,7 +7,7 @@ use lib.ListN.{replicate}
 use Rattle.rules.specs.declared.Outcome.the-variants.{Ok}
 use Rattle.rules.specs.declared.Verdict.the-variants.{Accepted}
 use Rattle.rules.specs.Table.{firstOf, anyOf, allOf, placeOf}
-use Rattle.rules.specs.Board.{ours, boardHost, activeHost, rows, rowOf, onBoard, classAt, classOf, clusterAt, homeAt, homeOf, shareControl}
+use Rattle.rules.specs.Board.{ours, boardHost, activeHost, rows, rowOf, onBoard, classAt, classOf, clusterAt, clusterOf, shareControl, homeAt}
 use Rattle.rules.specs.AccessList.{noEntry, partsFrom, namedIn, entryTable, entriesTable, listTable, verdictOf, accepted, entryIn, withPart, withParts, noEntries, entriesOf, hasEntry, isMaster, isSecondary, permitted}
 use Rattle.rules.specs.Message.{answerAsked, kindOf, waitIn, subjectOf}
 use Rattle.rules.specs.Outcome.{senderWrong, wordsMissing, waitFailed, admission, byWords, outcomeTable, outcomeOf, carriedOut, silent}
@@ -16,6 +16,7 @@ use Rattle.rules.specs.Answer.{ackBytes, bytesFor, answerBytes, answerOf, waite
 use Rattle.rules.specs.State.{listed, freeOwn, entryOf, recordIn, recordOf, viewOf, putIn, stored}
 use Rattle.rules.specs.Call.{afterMessage, answerTo, Lent, next}
 use Rattle.rules.specs.Bench.{benchList, header}
+use Rattle.rules.specs.Cluster.{clusterList}
 use Rattle.noninterference.specs.Statement.{clustersWhole}
 use Rattle.access.specs.Memory.{byRow, listedIn, entryAt, entriesIn, someList, setupIn}
 use Rattle.loading.specs.Loaded.{wordsOf, accessAfter}
@@ -60,5 +61,10 @@ unfolding Meets beforeOf firstOf anyOf ours boardHost activeHost placeOf rows ro
 bench-trace = step {x = request-step} refl (record { report = refl; records = refl; buffer = refl }, refl) done
 
 pub on-the-bench : CodeNoninterference benchList bothR5
-unfolding anyOf allOf ours placeOf rowOf clusterAt homeAt homeOf shareControl partsFrom namedIn clustersWhole
+unfolding anyOf allOf ours placeOf rowOf clusterAt clusterOf shareControl partsFrom namedIn clustersWhole
 on-the-bench = of-the-code benchList bothR5 refl refl
+
+-- and to a list that names the cluster of 32 and 33, chosen whole
+pub on-the-cluster : CodeNoninterference clusterList (32 ∷ 33 ∷ [])
+unfolding anyOf allOf ours placeOf rowOf clusterAt clusterOf shareControl partsFrom namedIn clustersWhole
+on-the-cluster = of-the-code clusterList (32 ∷ 33 ∷ []) refl refl
