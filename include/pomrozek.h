@@ -36,6 +36,8 @@ extern "C" {
 /*
  * The record memory, in words of 32 bits. Five words for each of the processors 1, 2, 32, 33, in
  * this order: controller (0: none), boot vector low, boot vector high, config word, control word.
+ * Processors 32 and 33 are one cluster and have one control word, which is 32's, word 14. Word 19,
+ * the place for it in 33's words, is not used: no call reads it and none changes it.
  */
 #define POMROZEK_RECORD_WORDS 20
 
@@ -108,7 +110,8 @@ uint32_t pomrozek_list(uint16_t access[POMROZEK_ACCESS_WORDS], const uint8_t *li
  * Carries out one message.
  *
  * access       the access memory, only read
- * records      the record memory; changed only on OK, and only the named processor's words
+ * records      the record memory; changed only on OK, and only the named processor's words, of
+ *              which the control word of 33 is 32's
  * channel      host of the queue that the message came in on, never taken from the message
  * message      the message from its eight-byte header on, only read; bytes beyond its structure are
  *              ignored

@@ -21,7 +21,7 @@ use Rattle.rules.specs.Effect.{effectOf}
 use Rattle.rules.specs.State.{ownOf}
 use Rattle.rules.proofs.Tests.{cond-true, cond-false}
 use Rattle.access.specs.Memory.{viewWith}
-use Rattle.records.specs.Memory.{recordAt, viewIn, withOwn, withControl, withRecord}
+use Rattle.records.specs.Memory.{recordAt, viewIn, withOwn, withControlWord, withRecord}
 use Rattle.records.proofs.LentMemory.{own-stored, control-stored}
 use Rattle.operations.specs.Operation.{typeTable, rowIn, memoryAfter, Carries}
 
@@ -207,7 +207,7 @@ module _ {k : Kind} {access memory : List ℕ} {q : Query} where
         carries
         (stored ∙ own-stored memory row next (ap (λ (r : Record). r .control) effect ∙ keeps state ∙ ap (λ (r : Record). r .control) (loaded-is l)))
 
-    pub carries-control : ((r : Record) → ownOf (effectOf k q r) ≡ ownOf r) → memory′ ≡ withControl memory (homeAt ours row) (next .control)
+    pub carries-control : ((r : Record) → ownOf (effectOf k q r) ≡ ownOf r) → memory′ ≡ withControlWord memory (homeAt ours row) (next .control)
         → Carries k access memory q memory′ Ok
     carries-control keeps stored =
         carries (stored ∙ control-stored memory row next (ap ownOf effect ∙ keeps state ∙ ap ownOf (loaded-is l)))

@@ -20,7 +20,7 @@ use Rattle.rules.proofs.Tests.{decide}
 use Rattle.rules.proofs.Rows.{row-within, home-within, home-past}
 use Rattle.access.specs.Memory.{byRow, listedIn, entryAt, entriesIn, someList, setupIn}
 use Rattle.access.proofs.Kept.{listed-some}
-use Rattle.records.specs.Memory.{ownAt, controlPlace, controlAt, recordAt, recordsIn, stateIn, viewIn, withOwn, withControl, withRecord}
+use Rattle.records.specs.Memory.{ownAt, controlPlace, controlAt, recordAt, recordsIn, stateIn, viewIn, withOwn, withControlWord, withRecord}
 
 -- ---- rows
 
@@ -171,7 +171,7 @@ module _ (m : List ℕ) (row : ℕ) (o : Own) where
 own-not-control : (row home j : ℕ) → j < 4 → 5 * row + j ≡ controlPlace home → ⊥
 own-not-control row home j h e = omega arith
 
-control-keeps-own : (m : List ℕ) (home word k : ℕ) → ownAt (withControl m home word) k ≡ ownAt m k
+control-keeps-own : (m : List ℕ) (home word k : ℕ) → ownAt (withControlWord m home word) k ≡ ownAt m k
 control-keeps-own m home word k =
     λ t.
     record {
@@ -182,7 +182,7 @@ control-keeps-own m home word k =
       config = getD-set-other m (controlPlace home) (5 * k + 3) word 0 (own-not-control k home 3 (omega arith)) t;
     }
 
-control-other : (m : List ℕ) (home word k : ℕ) → (k ≡ home → ⊥) → controlAt (withControl m home word) k ≡ controlAt m k
+control-other : (m : List ℕ) (home word k : ℕ) → (k ≡ home → ⊥) → controlAt (withControlWord m home word) k ≡ controlAt m k
 control-other m home word k apart = getD-set-other m (controlPlace home) (controlPlace k) word 0 (λ e. apart (omega arith))
 
 -- ---- a record stored: what is its own at its row, the control word at its home
@@ -193,12 +193,12 @@ unfolding withRecord
 own-stored m row r stands =
     let left = withOwn m row (ownOf r) in
     sym (set-getD left (controlPlace (homeAt ours row)) 0)
-    ∙ ap (withControl left (homeAt ours row)) (own-keeps-control m row (ownOf r) (homeAt ours row) ∙ sym stands)
+    ∙ ap (withControlWord left (homeAt ours row)) (own-keeps-control m row (ownOf r) (homeAt ours row) ∙ sym stands)
 
-pub control-stored : (m : List ℕ) (row : ℕ) (r : Record) → ownOf r ≡ ownAt m row → withControl m (homeAt ours row) (r .control) ≡ withRecord m row r
+pub control-stored : (m : List ℕ) (row : ℕ) (r : Record) → ownOf r ≡ ownAt m row → withControlWord m (homeAt ours row) (r .control) ≡ withRecord m row r
 unfolding withRecord
 control-stored m row r stands =
-    ap (λ (l : List ℕ). withControl l (homeAt ours row) (r .control)) (sym (own-kept m row) ∙ ap (withOwn m row) (sym stands))
+    ap (λ (l : List ℕ). withControlWord l (homeAt ours row) (r .control)) (sym (own-kept m row) ∙ ap (withOwn m row) (sym stands))
 
 -- a record put where it stands changes nothing
 pub store-same : (m : List ℕ) (row : ℕ) → withRecord m row (recordAt m row) ≡ m

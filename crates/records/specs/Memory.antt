@@ -66,9 +66,9 @@ withOwn m row own =
     m
 
 -- with a control word put at a home
-abbrev pub withControl : List ℕ → ℕ → ℕ → List ℕ
-withControl m home word = set m (controlPlace home) word
+abbrev pub withControlWord : List ℕ → ℕ → ℕ → List ℕ
+withControlWord m home word = set m (controlPlace home) word
 
 -- and with a whole record
 unfoldable pub withRecord : List ℕ → ℕ → Record → List ℕ
-withRecord m row r = withControl (withOwn m row (ownOf r)) (homeAt ours row) (r .control)
+withRecord m row r = withControlWord (withOwn m row (ownOf r)) (homeAt ours row) (r .control)

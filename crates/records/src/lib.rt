@@ -5,7 +5,7 @@ ghost use mathlib.Core.Path.{_≡_};
 ghost use lib.ListN.{getD};
 ghost use Rattle.rules.specs.Board.{ours, homeAt};
 ghost use Rattle.rules.specs.State.{ownOf};
-ghost use Rattle.records.specs.Memory.{controlPlace, recordAt, withOwn, withControl};
+ghost use Rattle.records.specs.Memory.{controlPlace, recordAt, withOwn, withControlWord};
 use board::home_at;
 use rules::Record;
 
@@ -56,7 +56,7 @@ pub fn store_own(records: &mut [u32], row: u8, state: Record)
 // Puts the control word of the processor at `row`, and so of its cluster, at the home. A home that is
 // not there is left alone.
 pub fn store_control(records: &mut [u32], row: u8, control: u32)
-    ensures { λ _. ⌜ now (records .exit) ≡ withControl (now (records .entry)) (homeAt ours row) control ⌝ }
+    ensures { λ _. ⌜ now (records .exit) ≡ withControlWord (now (records .entry)) (homeAt ours row) control ⌝ }
 {
     let place = control_place(row);
     if place < records.len() {

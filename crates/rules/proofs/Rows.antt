@@ -144,6 +144,13 @@ module _ (b : Board) (row : ℕ) where
       ∙ ap (λ (c : ℕ). placeOf (clustered c) (b .processors)) same
       ∙ sym (cond-false other _ (ap (λ (c : ℕ). eqb c 0) (sym same) ∙ some))
 
+-- a home is its own home
+pub home-home : (b : Board) (row : ℕ) → homeAt b (homeAt b row) ≡ homeAt b row
+home-home b row =
+    ⊎-elim (λ alone. ap (homeAt b) (home-alone b row alone))
+    (λ some. home-one b (homeAt b row) row (ap (λ (c : ℕ). eqb c 0) (home-cluster b row) ∙ some) (home-cluster b row))
+    (decide (eqb (clusterAt b row) 0))
+
 -- processors that share a control word have one home
 sharers-home : (b : Board) (p r : ℕ) → shareControl b p r ≡ true → homeOf b p ≡ homeOf b r
 unfolding shareControl homeOf clusterOf

@@ -1,14 +1,14 @@
 -- Every state that calls left is sound: the fresh one is, and every call keeps it, whatever the call. On the way: what one call leaves
 -- in the state, an offer once something was accepted, a message that is refused, and a store for one processor. Assumes nothing.
 use Prim.Native.Nat.{ℕ, zero, suc}
-use mathlib.Core.Path.{_≡_, refl, subst, subst⁻¹, _∙_, ap, ap₂}
+use mathlib.Core.Path.{_≡_, refl, sym, subst, subst⁻¹, _∙_, ap, ap₂}
 use mathlib.Core.Bool.{Bool, true, false}
 use mathlib.Core.List.{List, [], _∷_}
 use mathlib.Core.Logic.{⊎-elim}
 use lib.ListN.{length, getD, set, replicate, length-set, length-replicate}
 use lib.Seq.{set-getD, getD-set-same, getD-set-other, set-out}
 use lib.Dec.{eqb, ltb}
-use borrow.Author.Tests.{eqb-true, eqb-false, ltb-true, ltb-false}
+use borrow.Author.Tests.{eqb-true, eqb-false, eq-eqb, ltb-true, ltb-false}
 use Rattle.rules.specs.declared.Record.{Record}
 use Rattle.rules.specs.Table.{firstOf}
 use Rattle.rules.specs.Board.{Board, rows, rowOf, homeAt, homeOf}
@@ -20,6 +20,7 @@ use Rattle.rules.specs.State.{listed, listIn, Own, State, ownOf, joined,
 use Rattle.rules.specs.Call.{Offer, list, verdictTo, taken, afterOffer, afterMessage, queryOf, Call, offer, message, next}
 use Rattle.rules.specs.Sequence.{run, permittedFor, freeOrPermitted, Sound}
 use Rattle.rules.proofs.Tests.{decide, clash, or-left, cond-true, cond-false}
+use Rattle.rules.proofs.Rows.{home-home}
 use Rattle.rules.proofs.Rights.{soundly, allowed, after-sound, refusal-keeps}
 
 -- ---- an offer
@@ -80,6 +81,18 @@ module _ (s : State) (x : ℕ) (r : Record) (p : ℕ) where
       (getD-set-other (s .records .controls) (homeOf (s .setup .board) x) (homeOf (s .setup .board) p) (r .control) 0
       (eqb-false (homeOf (s .setup .board) p) (homeOf (s .setup .board) x) elsewhere))
 
+-- nor does it change a control word that no processor uses
+stored-spare : (s : State) (x : ℕ) (r : Record) (row : ℕ) → eqb (homeAt (s .setup .board) row) row ≡ false
+    → getD (stored s x r .records .controls) row 0 ≡ getD (s .records .controls) row 0
+unfolding stored putIn
+stored-spare s x r row spare =
+    let b = s .setup .board in
+    getD-set-other (s .records .controls) (homeAt b (rowOf b x)) row (r .control) 0
+    (λ e.
+    clash
+    (eq-eqb (homeAt b row) row (ap (homeAt b) e ∙ home-home b (rowOf b x) ∙ sym e))
+    spare)
+
 -- every processor that was held by a permitted host or by none still is
 held-after : (s : State) (q : Query) (p : ℕ) → freeOrPermitted (s .setup) p (recordOf s p) ≡ true
     → freeOrPermitted (s .setup) p (recordOf (afterMessage s q) p) ≡ true
@@ -127,6 +140,7 @@ sound-fresh b =
     record {
       rows-there = length-replicate (rows b) freeOwn;
       homes-there = length-replicate (rows b) 0;
+      spare-zero = λ row spare. same-at 0 (rows b) row;
       none-fresh = λ e. refl;
       list-good = λ t. clash {x = false} t refl;
       entries-its = λ t. clash {x = false} t refl;
@@ -142,6 +156,7 @@ sound-taken s sound (list bytes) ok =
     record {
       rows-there = sound .rows-there;
       homes-there = sound .homes-there;
+      spare-zero = sound .spare-zero;
       none-fresh = λ e. clash {x = true} refl e;
       list-good = λ t. subst (λ (x : Bool). accepted (verdictOf (s .setup .board) x bytes) ≡ true) none ok;
       entries-its = λ t. refl;
@@ -165,6 +180,9 @@ sound-message s sound q =
     record {
       rows-there = length-set (s .records .own) (rowOf (s .setup .board) (subjectOf q)) _ ∙ sound .rows-there;
       homes-there = length-set (s .records .controls) (homeAt (s .setup .board) (rowOf (s .setup .board) (subjectOf q))) _ ∙ sound .homes-there;
+      spare-zero =
+          λ row spare.
+          stored-spare s (subjectOf q) (recordAfter (viewOf s (subjectOf q)) q) row spare ∙ sound .spare-zero row spare;
       none-fresh = λ e. message-unlisted s q e ∙ sound .none-fresh e;
       list-good = sound .list-good;
       entries-its = sound .entries-its;

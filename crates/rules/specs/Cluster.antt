@@ -21,25 +21,28 @@ clusterList =
     ++ (0x21 ∷ 0x0A ∷ 0x00 ∷ 0x0C ∷ 0x00 ∷ 0x00 ∷ 0x00 ∷ 0x00 ∷ 0x00 ∷ [])
     ++ replicate 252 0
 
--- messages about processor p that ask for an answer, with 9 as the status now
+-- a message about processor p that asks for an answer, by its type's bytes, with the fields behind the processor and these status words
+abbrev pub asking : ℕ → ℕ → ℕ → ℕ → List ℕ → List ℕ → Call
+asking low high host p fields words = sent host (header low high host 2 ++ (p ∷ fields)) words
+
 abbrev pub request : ℕ → ℕ → Call
-request host p = sent host (header 0x00 0xC0 host 2 ++ (p ∷ [])) []
+request host p = asking 0x00 0xC0 host p [] []
 
 abbrev pub release : ℕ → ℕ → Call
-release host p = sent host (header 0x01 0xC0 host 2 ++ (p ∷ [])) []
+release host p = asking 0x01 0xC0 host p [] []
 
 abbrev pub handover : ℕ → ℕ → ℕ → Call
-handover host p newHost = sent host (header 0x05 0xC0 host 2 ++ (p ∷ newHost ∷ [])) []
+handover host p newHost = asking 0x05 0xC0 host p (newHost ∷ []) []
 
 abbrev pub setConfig : ℕ → ℕ → ℕ → ℕ → Call
-setConfig host p low set =
-    sent host (header 0x00 0xC1 host 2 ++ (p ∷ (u32Bytes low ++ u32Bytes 0 ++ u32Bytes set ++ u32Bytes 0))) []
+setConfig host p low set = asking 0x00 0xC1 host p (u32Bytes low ++ u32Bytes 0 ++ u32Bytes set ++ u32Bytes 0) []
 
 abbrev pub setControl : ℕ → ℕ → ℕ → ℕ → Call
-setControl host p set clear = sent host (header 0x01 0xC1 host 2 ++ (p ∷ (u32Bytes set ++ u32Bytes clear))) []
+setControl host p set clear = asking 0x01 0xC1 host p (u32Bytes set ++ u32Bytes clear) []
 
+-- with 9 as the status now
 abbrev pub getStatus : ℕ → ℕ → Call
-getStatus host p = sent host (header 0x00 0xC4 host 2 ++ (p ∷ [])) (9 ∷ [])
+getStatus host p = asking 0x00 0xC4 host p [] (9 ∷ [])
 
 -- the answer to get status
 abbrev pub statusOf : ℕ → ℕ → Record → List ℕ

@@ -3,9 +3,10 @@ use Prim.Native.Nat.{ℕ}
 use mathlib.Core.Path.{_≡_}
 use mathlib.Core.Bool.{Bool, true, false, _||_}
 use mathlib.Core.List.{List, [], _∷_}
-use lib.ListN.{length}
+use lib.ListN.{length, getD}
+use lib.Dec.{eqb}
 use Rattle.rules.specs.declared.Record.{Record}
-use Rattle.rules.specs.Board.{rows}
+use Rattle.rules.specs.Board.{rows, homeAt}
 use Rattle.rules.specs.AccessList.{permitted, entriesOf, verdictOf, accepted}
 use Rattle.rules.specs.Outcome.{isFree}
 use Rattle.rules.specs.State.{listed, listIn, Setup, State, fresh, entryOf, recordOf}
@@ -29,6 +30,8 @@ pub record Sound (s : State) : Type 0 where
   -- there is a record for each processor, and a place for each control word
   pub rows-there : length (s .records .own) ≡ rows (s .setup .board)
   pub homes-there : length (s .records .controls) ≡ rows (s .setup .board)
+  -- a control word that no processor uses, since its row is no home, is 0
+  pub spare-zero : (row : ℕ) → eqb (homeAt (s .setup .board) row) row ≡ false → getD (s .records .controls) row 0 ≡ 0
   -- with no list accepted the state is fresh
   pub none-fresh : listed (s .setup .source) ≡ false → s ≡ fresh (s .setup .board)
   -- a list that is in force is one that the table accepts
