@@ -24,7 +24,7 @@ use Rattle.rules.specs.Answer.{ackBytes, bytesFor, answerBytes, answerOf, repor
 use Rattle.rules.specs.State.{Own, State, ownOf, viewOf, putIn, stored}
 use Rattle.rules.specs.Call.{list, verdictTo, taken, afterOffer, afterMessage, answerTo, offer, next}
 use Rattle.rules.proofs.Tests.{decide, cond-true, cond-false}
-use Rattle.rules.proofs.Rows.{home-past}
+use Rattle.rules.proofs.Homes.{home-past}
 use Rattle.rules.proofs.Rights.{allowed}
 use Rattle.access.specs.Memory.{byRow, setupIn}
 use Rattle.loading.specs.Loaded.{accessAfter}

@@ -19,7 +19,8 @@ use Rattle.rules.specs.State.{listed, Setup, State, ownOf, joined, freeOwn, ent
 use Rattle.rules.specs.Call.{Offer, afterOffer, afterMessage, answerTo, Call, offer, message, next}
 use Rattle.rules.specs.Sequence.{permittedFor, freeOrPermitted, Sound}
 use Rattle.rules.proofs.Tests.{decide, clash, and-right, and-both, or-cases, anyOf-member, anyOf-find, allOf-member, set-alike}
-use Rattle.rules.proofs.Rows.{row-one, board-member, share-home}
+use Rattle.rules.proofs.Rows.{row-one, board-member}
+use Rattle.rules.proofs.Homes.{share-home}
 use Rattle.rules.proofs.Rights.{allowed, sender-permitted, carried-about, about-names}
 use Rattle.rules.proofs.Sound.{offer-kept, message-refused, stored-other, sound-next}
 use Rattle.noninterference.specs.Statement.{clustersWhole, insider, aboutChosen, picked}

@@ -17,7 +17,8 @@ use Rattle.rules.specs.Board.{ours, rows, rowOf, homeAt}
 use Rattle.rules.specs.AccessList.{noEntry, noEntries}
 use Rattle.rules.specs.State.{listed, Own, ownOf, joined, freeOwn, fresh, entryOf, recordIn, recordOf, viewOf, putIn}
 use Rattle.rules.proofs.Tests.{decide}
-use Rattle.rules.proofs.Rows.{row-within, home-within, home-past}
+use Rattle.rules.proofs.Rows.{row-within}
+use Rattle.rules.proofs.Homes.{home-within, home-past}
 use Rattle.access.specs.Memory.{byRow, listedIn, entryAt, entriesIn, someList, setupIn}
 use Rattle.access.proofs.Kept.{listed-some}
 use Rattle.records.specs.Memory.{ownAt, controlPlace, controlAt, recordAt, recordsIn, stateIn, viewIn, withOwn, withControlWord, withRecord}

@@ -2,6 +2,7 @@
 pub mod Tests
 pub mod Bench
 pub mod Rows
+pub mod Homes
 pub mod Rights
 pub mod Entries
 pub mod Sound

@@ -20,7 +20,7 @@ use Rattle.rules.specs.State.{listed, listIn, Own, State, ownOf, joined,
 use Rattle.rules.specs.Call.{Offer, list, verdictTo, taken, afterOffer, afterMessage, queryOf, Call, offer, message, next}
 use Rattle.rules.specs.Sequence.{run, permittedFor, freeOrPermitted, Sound}
 use Rattle.rules.proofs.Tests.{decide, clash, or-left, cond-true, cond-false}
-use Rattle.rules.proofs.Rows.{home-home}
+use Rattle.rules.proofs.Homes.{home-home}
 use Rattle.rules.proofs.Rights.{soundly, allowed, after-sound, refusal-keeps}
 
 -- ---- an offer

@@ -18,7 +18,7 @@ use Rattle.rules.specs.State.{listed, State, joined, freeOwn, fresh, recordIn, 
 use Rattle.rules.specs.Call.{list, verdictTo, afterOffer, Answer, answerTo, Lent, queryOf, next}
 use Rattle.rules.specs.Sequence.{run, freeOrPermitted}
 use Rattle.rules.proofs.Tests.{allOf-member}
-use Rattle.rules.proofs.Rows.{home-within}
+use Rattle.rules.proofs.Homes.{home-within}
 use Rattle.rules.proofs.Entries.{named-on}
 use Rattle.rules.proofs.Sound.{first-accepted}
 use Rattle.noninterference.specs.Statement.{clustersWhole, answers, Noninterference}

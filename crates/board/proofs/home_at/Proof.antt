@@ -5,7 +5,7 @@ use borrow.Author.Needs.{needs}
 use Rattle.rules.specs.Table.{placeOf, allFrom}
 use Rattle.rules.specs.Board.{ours, rows, clusterAt, homeAt}
 use Rattle.rules.proofs.Tests.{allFrom-gives}
-use Rattle.rules.proofs.Rows.{home-past}
+use Rattle.rules.proofs.Homes.{home-past}
 use Rattle.board.proofs.home_at.Statement.{statement}
 use Rattle.board.proofs.home_at.Tie as tie
 
