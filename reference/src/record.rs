@@ -67,33 +67,27 @@ fn control_place(row: usize) -> usize {
 mod tests {
     use super::*;
 
+    /// The record of a row where each word holds its place, and the words that a new control word
+    /// changes.
+    fn counted(row: usize) -> (Record, Vec<usize>) {
+        let mut memory: RecordMemory = std::array::from_fn(|i| i as u32);
+        let record = Record::load(&memory, row);
+        Record { control: 99, ..record }.store(&mut memory, row);
+        (record, (0..RECORD_WORDS).filter(|&i| memory[i] != i as u32).collect())
+    }
+
     #[test]
     fn rows_are_five_words() {
-        let mut memory: RecordMemory = std::array::from_fn(|i| i as u32);
-        let mut record = Record::load(&memory, 2);
-        assert_eq!(
-            record,
-            Record { controller: 10, vector_low: 11, vector_high: 12, config: 13, control: 14 }
-        );
-        record.control = 99;
-        record.store(&mut memory, 2);
-        let changed: Vec<_> = (0..20).filter(|&i| memory[i] != i as u32).collect();
-        assert_eq!(changed, [14]);
+        let record =
+            Record { controller: 10, vector_low: 11, vector_high: 12, config: 13, control: 14 };
+        assert_eq!(counted(2), (record, vec![14]));
     }
 
     #[test]
     fn second_core_has_the_word_of_the_first() {
-        let mut memory: RecordMemory = std::array::from_fn(|i| i as u32);
-        let mut record = Record::load(&memory, 3);
-        assert_eq!(
-            record,
-            Record { controller: 15, vector_low: 16, vector_high: 17, config: 18, control: 14 }
-        );
-        record.control = 99;
-        record.store(&mut memory, 3);
-        let changed: Vec<_> = (0..20).filter(|&i| memory[i] != i as u32).collect();
-        assert_eq!(changed, [14]);
-        assert_eq!(Record::load(&memory, 2).control, 99);
+        let record =
+            Record { controller: 15, vector_low: 16, vector_high: 17, config: 18, control: 14 };
+        assert_eq!(counted(3), (record, vec![14]));
     }
 
     #[test]
