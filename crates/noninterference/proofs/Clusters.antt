@@ -1,5 +1,5 @@
--- Which choices hold a cluster whole, on document 01's board, and why they must: with half a cluster chosen, what others send about its other
--- half changes the chosen one's record. All computed by the rules. Assumes nothing.
+-- Demand 3 on document 01's board with a list that names all four processors: it holds of each choice that holds the cluster whole or not at
+-- all, and of half the cluster it does not: what others send about the other half changes the chosen one's record. Assumes nothing.
 use Prim.Native.Nat.{ℕ}
 use mathlib.Core.Path.{_≡_, refl, sym, ap, _∙_}
 use mathlib.Core.Bool.{true, false}
@@ -7,7 +7,7 @@ use mathlib.Core.List.{List, [], _∷_}
 use native.Mathlib.Omega.{arith}
 use Rattle.rules.specs.declared.Record.{Record}
 use Rattle.rules.specs.Table.{firstOf, anyOf, allOf, placeOf}
-use Rattle.rules.specs.Board.{Board, ours, boardHost, activeHost, rows, rowOf, onBoard, classAt, classOf, clusterAt, clusterOf, shareControl, homeAt, maskOf}
+use Rattle.rules.specs.Board.{Board, ours, boardHost, activeHost, rows, rowOf, onBoard, classAt, classOf, clusterAt, homeAt, maskOf}
 use Rattle.rules.specs.AccessList.{noEntry, parts, partsFrom, namedIn, entryTable, entriesTable, listTable, verdictOf, accepted, entryIn, withPart, withParts, noEntries, entriesOf, hasEntry, isMaster, isSecondary, permitted}
 use Rattle.rules.specs.Message.{kindOf, namesProcessor, subjectOf, isAbout}
 use Rattle.rules.specs.Outcome.{senderWrong, wordsMissing, waitFailed, admission, byWords, outcomeTable, outcomeOf, carriedOut}
@@ -18,21 +18,8 @@ use Rattle.rules.specs.Sequence.{permittedFor, run}
 use Rattle.rules.specs.Cluster.{clusterList, request, setControl}
 use Rattle.rules.proofs.Tests.{clash}
 use Rattle.noninterference.specs.Statement.{clustersWhole, Ready, insider, aboutChosen, picked, picks, Noninterference}
+use Rattle.noninterference.proofs.Choices.{whole-choices, half-choices}
 use Rattle.noninterference.proofs.Theorem.{freshly-loaded}
-
--- ---- which choices there are
-
--- {1}, {32, 33} and all four hold the cluster whole or not at all; {32} alone does not, nor does {33}
-pub whole-choices :
-    (clustersWhole ours (1 ∷ []) ≡ true)
-    × (clustersWhole ours (32 ∷ 33 ∷ []) ≡ true)
-    × (clustersWhole ours (1 ∷ 2 ∷ 32 ∷ 33 ∷ []) ≡ true)
-unfolding clustersWhole anyOf allOf ours placeOf rowOf clusterAt clusterOf shareControl
-whole-choices = (refl, refl, refl)
-
-pub half-choices : (clustersWhole ours (32 ∷ []) ≡ false) × (clustersWhole ours (33 ∷ []) ≡ false)
-unfolding clustersWhole anyOf allOf ours placeOf rowOf clusterAt clusterOf shareControl
-half-choices = (refl, refl)
 
 -- ---- a list that names all four
 
@@ -44,21 +31,21 @@ unfolding firstOf anyOf ours boardHost activeHost placeOf rows rowOf onBoard par
 start-board = refl
 
 -- demand 3 holds for each choice from it that holds the cluster whole or not at all
-held : (chosen : List ℕ) → allOf (namedIn (parts clusterList)) chosen ≡ true → clustersWhole ours chosen ≡ true → Noninterference start chosen
+of-choice : (chosen : List ℕ) → allOf (namedIn (parts clusterList)) chosen ≡ true → clustersWhole ours chosen ≡ true → Noninterference start chosen
 unfolding firstOf anyOf allOf ours boardHost activeHost placeOf rows rowOf onBoard partsFrom namedIn entryTable entriesTable listTable verdictOf accepted
-held chosen named whole = freshly-loaded ours clusterList chosen refl named whole
+of-choice chosen named whole = freshly-loaded ours clusterList chosen refl named whole
 
 pub one-alone : Noninterference start (1 ∷ [])
 unfolding anyOf allOf partsFrom namedIn
-one-alone = held (1 ∷ []) refl (whole-choices .0)
+one-alone = of-choice (1 ∷ []) refl (whole-choices .0)
 
 pub the-cluster : Noninterference start (32 ∷ 33 ∷ [])
 unfolding anyOf allOf partsFrom namedIn
-the-cluster = held (32 ∷ 33 ∷ []) refl (whole-choices .1)
+the-cluster = of-choice (32 ∷ 33 ∷ []) refl (whole-choices .1)
 
 pub all-four : Noninterference start (1 ∷ 2 ∷ 32 ∷ 33 ∷ [])
 unfolding anyOf allOf partsFrom namedIn
-all-four = held (1 ∷ 2 ∷ 32 ∷ 33 ∷ []) refl (whole-choices .2)
+all-four = of-choice (1 ∷ 2 ∷ 32 ∷ 33 ∷ []) refl (whole-choices .2)
 
 -- 32 alone is no such choice
 pub half-not-ready : Ready start (32 ∷ []) → ⊥

@@ -1,4 +1,5 @@
--- Demand 3 holds: the laws of one call, whole sequences, the theorem, one use of it, and which choices it needs.
+-- Demand 3 holds: which choices there are, the laws of one call, whole sequences, the theorem, and uses of it.
+pub mod Choices
 pub mod OneCall
 pub mod Sequences
 pub mod Theorem

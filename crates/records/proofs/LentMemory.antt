@@ -27,7 +27,7 @@ use Rattle.records.specs.Memory.{ownAt, controlPlace, controlAt, recordA
 
 module _ {A : Type 0} (f : ℕ → A) (d : A) where
   -- a row that is there, and one that is not
-  pub byRow-at : (n i j : ℕ) → j < n → getD (byRow f i n) j d ≡ f (i + j)
+  byRow-at : (n i j : ℕ) → j < n → getD (byRow f i n) j d ≡ f (i + j)
   unfolding byRow
   byRow-at zero i j h = absurd (not-suc-le-zero h)
   byRow-at (suc n) i zero h = ap f (sym (add-zero i))
@@ -39,10 +39,14 @@ module _ {A : Type 0} (f : ℕ → A) (d : A) where
   byRow-past (suc n) i zero h = absurd (not-suc-le-zero h)
   byRow-past (suc n) i (suc j) h = byRow-past n (suc i) j (le-of-suc-le-suc h)
 
+  -- a row that is there, of all of them
+  pub byRow-here : (n j : ℕ) → j < n → getD (byRow f 0 n) j d ≡ f j
+  byRow-here n j h = byRow-at n 0 j h ∙ ap f (zero-add j)
+
   -- rows that are one past the last and there alike: the default stands in for what f says of it
   pub byRow-all : (n j : ℕ) → j ≤ n → f n ≡ d → getD (byRow f 0 n) j d ≡ f j
   byRow-all n j h past =
-      ⊎-elim (λ t. byRow-at n 0 j (ltb-true j n t) ∙ ap f (zero-add j))
+      ⊎-elim (λ t. byRow-here n j (ltb-true j n t))
       (λ e. let same : j ≡ n = (let q = ltb-false j n e in omega arith) in byRow-past n 0 j (ltb-false j n e) ∙ sym past ∙ ap f (sym same))
       (decide (ltb j n))
 
@@ -92,23 +96,30 @@ sets-length : (vs l : List ℕ) (i : ℕ) → length (sets l i vs) ≡ length l
 sets-length [] l i = refl
 sets-length (v ∷ vs) l i = sets-length vs (set l i v) (suc i) ∙ length-set l i v
 
+own-is : (m : List ℕ) (row : ℕ) (o : Own) → 5 * row + 4 < length m → withOwn m row o ≡ sets m (5 * row) (wordsOf o)
+unfolding withOwn
+own-is m row o fits = rw (lt-ltb (5 * row + 4) (length m) fits) (simp towards-suc)
+
+own-none : (m : List ℕ) (row : ℕ) (o : Own) → length m ≤ 5 * row + 4 → withOwn m row o ≡ m
+unfolding withOwn
+own-none m row o past = rw (le-ltb (5 * row + 4) (length m) past)
+
 -- a word before them or behind them stays, a control word among others
 own-beside : (m : List ℕ) (row : ℕ) (o : Own) (k : ℕ) → (k < 5 * row) ⊎ (5 * row + 4 ≤ k) → getD (withOwn m row o) k 0 ≡ getD m k 0
-unfolding withOwn
 own-beside m row o k out =
     ⊎-elim
-    (λ (t : ltb (5 * row + 4) (length m) ≡ true). rw t (simp towards-suc (sets-other (wordsOf o) m (5 * row) k out)))
-    (λ (f : ltb (5 * row + 4) (length m) ≡ false). rw f)
+    (λ t. ap (λ (l : List ℕ). getD l k 0) (own-is m row o (ltb-true _ _ t)) ∙ sets-other (wordsOf o) m (5 * row) k out)
+    (λ f. ap (λ (l : List ℕ). getD l k 0) (own-none m row o (ltb-false _ _ f)))
     (decide (ltb (5 * row + 4) (length m)))
 
-pub own-keeps-control : (m : List ℕ) (row : ℕ) (o : Own) (home : ℕ) → controlAt (withOwn m row o) home ≡ controlAt m home
+own-keeps-control : (m : List ℕ) (row : ℕ) (o : Own) (home : ℕ) → controlAt (withOwn m row o) home ≡ controlAt m home
 own-keeps-control m row o home =
     own-beside m row o (controlPlace home)
     (⊎-elim (λ t. inl (let q = ltb-true home row t in omega arith)) (λ f. inr (let q = ltb-false home row f in omega arith))
     (decide (ltb home row)))
 
 -- put where it stands it changes nothing
-pub own-kept : (m : List ℕ) (row : ℕ) → withOwn m row (ownAt m row) ≡ m
+own-kept : (m : List ℕ) (row : ℕ) → withOwn m row (ownAt m row) ≡ m
 unfolding withOwn
 own-kept m row =
     ⊎-elim
@@ -119,12 +130,8 @@ own-kept m row =
 
 module _ (m : List ℕ) (row : ℕ) (o : Own) where
   module _ (fits : 5 * row + 4 < length m) where
-    own-is : withOwn m row o ≡ sets m (5 * row) (wordsOf o)
-    unfolding withOwn
-    own-is = rw (lt-ltb (5 * row + 4) (length m) fits) (simp towards-suc)
-
     at-row : (j : ℕ) → j < 4 → getD (withOwn m row o) (5 * row + j) 0 ≡ getD (wordsOf o) j 0
-    at-row j h = ap (λ (l : List ℕ). getD l (5 * row + j) 0) own-is ∙ sets-at (wordsOf o) m (5 * row) j (omega arith) h
+    at-row j h = ap (λ (l : List ℕ). getD l (5 * row + j) 0) (own-is m row o fits) ∙ sets-at (wordsOf o) m (5 * row) j (omega arith) h
 
     own-same : ownAt (withOwn m row o) row ≡ o
     own-same =
@@ -137,7 +144,7 @@ module _ (m : List ℕ) (row : ℕ) (o : Own) where
         }
 
     own-length : length (withOwn m row o) ≡ length m
-    own-length = ap length own-is ∙ sets-length (wordsOf o) m (5 * row)
+    own-length = ap length (own-is m row o fits) ∙ sets-length (wordsOf o) m (5 * row)
 
   -- the words of another row stand before it or behind it
   beside : (k j : ℕ) → (k ≡ row → ⊥) → j < 4 → (5 * k + j < 5 * row) ⊎ (5 * row + 4 ≤ 5 * k + j)
@@ -188,7 +195,7 @@ control-other m home word k apart = getD-set-other m (controlPlace home) (contro
 
 -- ---- a record stored: what is its own at its row, the control word at its home
 
--- a record whose control word is the one that stands, and one of which only the control word differs
+-- to store what is its own is the whole store where its control word is the one that stands, and to store the control word where the rest is
 pub own-stored : (m : List ℕ) (row : ℕ) (r : Record) → r .control ≡ controlAt m (homeAt ours row) → withOwn m row (ownOf r) ≡ withRecord m row r
 unfolding withRecord
 own-stored m row r stands =
@@ -241,11 +248,11 @@ records-store m row r size h =
 
 -- a row that is not there is not stored to
 pub records-kept : (m : List ℕ) (row : ℕ) (r : Record) → length m ≡ 20 → 4 ≤ row → withRecord m row r ≡ m
-unfolding withRecord withOwn rows ours
+unfolding withRecord rows ours
 records-kept m row r size h =
-    rw (le-ltb (5 * row + 4) (length m) (omega arith))
-    (set-out m (controlPlace (homeAt ours row)) (r .control)
-    (subst⁻¹ (λ (n : ℕ). length m ≤ controlPlace n) (home-past ours row h) (omega arith)))
+    ap (λ (l : List ℕ). withControlWord l (homeAt ours row) (r .control)) (own-none m row (ownOf r) (omega arith))
+    ∙ set-out m (controlPlace (homeAt ours row)) (r .control)
+    (subst⁻¹ (λ (n : ℕ). length m ≤ controlPlace n) (home-past ours row h) (omega arith))
 
 -- ---- what a call sees
 

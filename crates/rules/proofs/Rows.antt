@@ -36,7 +36,7 @@ place-within test (x ∷ xs) =
 -- ---- the row of a processor
 
 -- the processor has number p
-abbrev pub numbered : ℕ → Processor → Bool
+abbrev numbered : ℕ → Processor → Bool
 numbered p x = eqb p (x .number)
 
 place-one : (xs : List Processor) (p r : ℕ)

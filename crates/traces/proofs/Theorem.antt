@@ -1,11 +1,10 @@
 -- Demand 3 of the code: traces of calls that meet the contracts of crate manager have it, since their memories hold the states of the
 -- rules, of which crate noninterference shows it. Assumes nothing.
-use Prim.Native.Nat.{ℕ, _<_}
+use Prim.Native.Nat.{ℕ}
 use mathlib.Core.Path.{_≡_, refl, sym, ap, ap₂, _∙_}
 use mathlib.Core.Bool.{true, false}
 use mathlib.Core.List.{List, [], _∷_}
-use native.Mathlib.Nat.{zero-add, lt-of-le-of-lt}
-use lib.ListN.{getD}
+use native.Mathlib.Nat.{lt-of-le-of-lt}
 use lib.Dec.{eqb}
 use borrow.Author.Tests.{ltb-true}
 use Rattle.rules.specs.declared.Report.{Report}
@@ -23,10 +22,10 @@ use Rattle.rules.proofs.Entries.{named-on}
 use Rattle.rules.proofs.Sound.{first-accepted}
 use Rattle.noninterference.specs.Statement.{clustersWhole, answers, Noninterference}
 use Rattle.noninterference.proofs.Theorem.{freshly-loaded, no-trace}
-use Rattle.access.specs.Memory.{byRow, someList, setupIn, keptSetup}
+use Rattle.access.specs.Memory.{someList, setupIn, keptSetup}
 use Rattle.loading.proofs.Offers.{verdict-told}
 use Rattle.records.specs.Memory.{ownAt, controlAt, recordAt, recordsIn, stateIn, kept}
-use Rattle.records.proofs.LentMemory.{byRow-at, zeros-fresh}
+use Rattle.records.proofs.LentMemory.{byRow-here, zeros-fresh}
 use Rattle.manager.specs.Calls.{ListCall}
 use Rattle.traces.specs.Trace.{Memories, zeros, Step, listStep, messageStep, beforeOf, afterOf, callOf, Meets, Trace, step, endOf, callsOf, Loaded}
 use Rattle.traces.specs.Statement.{setupOf, given, OfTheCode}
@@ -45,13 +44,10 @@ words-at m s p holds on =
     let row = rowOf ours p in
     let inside = ltb-true row (rows ours) on in
     ap₂ joined
-    (sym (byRow-here (ownAt (m .records)) freeOwn row inside))
-    (sym (byRow-here (controlAt (m .records)) 0 (homeAt ours row) (lt-of-le-of-lt (home-within ours row) inside)))
+    (sym (byRow-here (ownAt (m .records)) freeOwn (rows ours) row inside))
+    (sym (byRow-here (controlAt (m .records)) 0 (rows ours) (homeAt ours row) (lt-of-le-of-lt (home-within ours row) inside)))
     ∙ ap (λ (t : State). recordOf t p) holds
     ∙ record-kept s p
-  where
-    byRow-here : {A : Type 0} (f : ℕ → A) (d : A) (i : ℕ) → i < rows ours → getD (byRow f 0 (rows ours)) i d ≡ f i
-    byRow-here f d i h = byRow-at f d (rows ours) 0 i h ∙ ap f (zero-add i)
 
 -- ---- memories in which a list has just been accepted
 
