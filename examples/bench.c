@@ -15,7 +15,8 @@
 
 #include "pomrozek.h"
 
-/* The manager. Static memory is all zeros, which is a fresh one. */
+/* The manager. pomrozek_start fills the first; the other two are zeros, as a fresh one's. */
+static uint8_t board_memory[POMROZEK_BOARD_BYTES];
 static uint16_t access_memory[POMROZEK_ACCESS_WORDS];
 static uint32_t record_memory[POMROZEK_RECORD_WORDS];
 
@@ -66,7 +67,7 @@ static void print_answer(const uint8_t *answer, uint32_t written)
 static void offer(const uint8_t *list, size_t length)
 {
     printf("list ");
-    print_verdict(pomrozek_list(access_memory, list, length));
+    print_verdict(pomrozek_list(board_memory, access_memory, list, length));
     printf("\n");
 }
 
@@ -81,8 +82,8 @@ static void deliver(uint8_t channel, const uint8_t *message, size_t length)
     uint32_t report[POMROZEK_REPORT_WORDS];
     uint32_t outcome;
 
-    outcome = pomrozek_message(access_memory, record_memory, channel, message, length, status, 0,
-                               answer, sizeof answer, report);
+    outcome = pomrozek_message(board_memory, access_memory, record_memory, channel, message, length,
+                               status, 0, answer, sizeof answer, report);
     print_outcome(outcome);
     printf(" %u %u ", (unsigned)report[POMROZEK_CHECKS], (unsigned)report[POMROZEK_MICROS]);
     print_answer(answer, report[POMROZEK_WRITTEN]);
@@ -91,6 +92,7 @@ static void deliver(uint8_t channel, const uint8_t *message, size_t length)
 
 int main(void)
 {
+    pomrozek_start(board_memory); /* document 01's board */
     offer(bench_list, sizeof bench_list);
     deliver(3, request_by_3, sizeof request_by_3); /* free and permitted: granted */
     deliver(5, request_by_5, sizeof request_by_5); /* held by 3, and 5 is no recovery master: N7 */

@@ -1,13 +1,15 @@
 /*
- * Pomrozek: a manager of processor boot that speaks TISCI messages. Two calls over memory that the
+ * Pomrozek: a manager of processor boot that speaks TISCI messages. Four calls over memory that the
  * caller lends. x86-64 System V; link target/staticlib/libpomrozek.a (`rt staticlib pomrozek`).
  *
  * Memory. The caller owns every array. A call reads and writes what it is lent and keeps no pointer
  * once it has returned. The library has no heap, no globals and makes no system calls: the archive
  * has no writable data and leaves no symbol undefined, not even memcpy or memset.
  *
- * State. A manager is one access memory and one record memory. Both all zeros are a fresh manager,
- * so static arrays need no set-up. Any content is a state, and no content is undefined.
+ * State. A manager is one board memory, one access memory and one record memory. pomrozek_start
+ * fills the board memory; access and record memory all zeros are a fresh manager's, so static arrays
+ * need no set-up. Any content is a state, and no content is undefined. A board memory of zeros is a
+ * board where every processor number is in row 0 and there is no host: call pomrozek_start first.
  *
  * Pointers. Each must be aligned for its type and valid for its whole length. None may be null,
  * also where its length is 0. Arrays lent to one call must not overlap each other.
@@ -26,20 +28,42 @@
 extern "C" {
 #endif
 
-/*
- * The access memory, in words of 16 bits. Word 0 is 0 until a list is accepted. Then four words for
- * each of the processors 1, 2, 32, 33, in this order: recovery master (0: no entry) and three
- * secondaries (0: unused).
- */
-#define POMROZEK_ACCESS_WORDS 17
+/* A board has at most 32 processors, each with a row, and 64 hosts besides host 0. */
+#define POMROZEK_ROWS 32
+#define POMROZEK_HOSTS 64
 
 /*
- * The record memory, in words of 32 bits. Five words for each of the processors 1, 2, 32, 33, in
- * this order: controller (0: none), boot vector low, boot vector high, config word, control word.
- * Processors 32 and 33 are one cluster and have one control word, which is 32's, word 14. Word 19,
- * the place for it in 33's words, is not used: no call reads it and none changes it.
+ * The board memory, in bytes. By host number: 0 no host, 2 a secure host, any other number a host
+ * that is not secure; the byte of host 0 is not looked at, since host 0 is on every board. Then by
+ * processor number: its row, or a number from 32 on where it is not on the board. Then by row: the
+ * class of its processor, 0 for R5 and 1 for ARMv8, of which the lowest bit counts. Then by row: its
+ * home, the row where its control word is kept, of which the lowest five bits count.
+ *
+ * A description that is taken leaves 1 or 2 for its hosts and 0 for the others; its processors' rows
+ * in their order, from 0, and 32 for the others; their classes; as home of an ARMv8 processor in a
+ * cluster the row of the cluster's first, of any other its own row. Rows without a processor have
+ * class 0 and themselves as home.
  */
-#define POMROZEK_RECORD_WORDS 20
+#define POMROZEK_BOARD_BYTES 576
+#define POMROZEK_BOARD_PLACES 256  /* the row of processor p is byte 256 + p */
+#define POMROZEK_BOARD_CLASSES 512 /* the class of row r is byte 512 + r */
+#define POMROZEK_BOARD_HOMES 544   /* the home of row r is byte 544 + r */
+
+/*
+ * The access memory, in words of 16 bits. Word 0 is 0 until a list is accepted. Then four words for
+ * each row, from word 1 + 4 * row on: recovery master (0: no entry) and three secondaries (0:
+ * unused).
+ */
+#define POMROZEK_ACCESS_WORDS 129
+
+/*
+ * The record memory, in words of 32 bits. Four words for each row, from word 4 * row on: controller
+ * (0: none), boot vector low, boot vector high, config word. Then one control word for each home:
+ * that of row r is word 128 + the home of r. The processors of an ARMv8 cluster have one home, and so
+ * one control word.
+ */
+#define POMROZEK_RECORD_WORDS 160
+#define POMROZEK_CONTROLS 128
 
 /* The report of a message call, by enum pomrozek_report. */
 #define POMROZEK_REPORT_WORDS 3
@@ -52,10 +76,11 @@ extern "C" {
 
 /*
  * What pomrozek_list gives: 0, or k for Ak. A1 to A4 are tested in this order, then entries 0 to
- * 31, each A5 to A8. The first fault is reported.
+ * 31, each A5 to A8. What pomrozek_board gives: 0, A1, or 200 + k for Dk. A1 is tested first, then for
+ * each item in turn D1 to D6 in this order. The first fault is reported.
  */
 enum pomrozek_verdict {
-    POMROZEK_ACCEPTED = 0, /* the list is in force from now on */
+    POMROZEK_ACCEPTED = 0, /* the list, or the board, is in force from now on */
     POMROZEK_A1 = 1,       /* a list was accepted before, whatever the new one holds */
     POMROZEK_A2 = 2,       /* length is not 292 */
     POMROZEK_A3 = 3,       /* magic is not 0xF1EA */
@@ -63,7 +88,13 @@ enum pomrozek_verdict {
     POMROZEK_A5 = 5,       /* an entry's processor is not on the board */
     POMROZEK_A6 = 6,       /* an entry's processor is named by an earlier used entry */
     POMROZEK_A7 = 7,       /* an entry's recovery master is not a board host, or is 0 */
-    POMROZEK_A8 = 8        /* an entry's secondary is neither 0 nor a board host */
+    POMROZEK_A8 = 8,       /* an entry's secondary is neither 0 nor a board host */
+    POMROZEK_D1 = 201,     /* an item has a bad tag or length, or is cut off */
+    POMROZEK_D2 = 202,     /* its number is 0 */
+    POMROZEK_D3 = 203,     /* an earlier item of its kind has its number */
+    POMROZEK_D4 = 204,     /* its secure mark or its class is neither 0 nor 1 */
+    POMROZEK_D5 = 205,     /* an earlier processor of its cluster has another class */
+    POMROZEK_D6 = 206      /* there are 64 hosts, or 32 processors, before it */
 };
 
 /*
@@ -95,23 +126,53 @@ enum pomrozek_report {
 };
 
 /*
+ * Fills the board memory with document 01's board, whatever it held: hosts 3 and 10, secure, and 4, 5,
+ * 6, 12, 13; processors 1 and 2, R5, and 32 and 33, ARMv8 and one cluster, in rows 0 to 3. It stands
+ * until a description is taken.
+ *
+ * board  the board memory
+ */
+void pomrozek_start(uint8_t board[POMROZEK_BOARD_BYTES]);
+
+/*
+ * Offers a board description: items one behind the other, each a tag, a length of two bytes, low byte
+ * first, and as many bytes. Tag 1 is a host: 2 bytes, its number and 1 for secure or 0 for not. Tag 2
+ * is a processor: 3 bytes, its number, its class (0 for R5, 1 for ARMv8) and the number of its
+ * cluster, 0 for none. Host 0 is not listed. No bytes at all are a good description, of a board with
+ * host 0 alone.
+ *
+ * board            the board memory; changed only if the description is taken, and then whole
+ * access           the access memory, only read: once a list is accepted every description gets A1
+ * description      the description's bytes, only read
+ * description_len  their number; any
+ *
+ * Returns the verdict, by enum pomrozek_verdict. A refused description changes nothing.
+ */
+uint32_t pomrozek_board(uint8_t board[POMROZEK_BOARD_BYTES],
+                        const uint16_t access[POMROZEK_ACCESS_WORDS], const uint8_t *description,
+                        size_t description_len);
+
+/*
  * Offers an access list.
  *
+ * board     the board memory, only read
  * access    the access memory; changed only if the list is accepted
  * list      the list's bytes, only read
  * list_len  their number; any number but 292 gets A2, or A1 once a list is in force
  *
  * Returns the verdict, by enum pomrozek_verdict. A refused list changes nothing.
  */
-uint32_t pomrozek_list(uint16_t access[POMROZEK_ACCESS_WORDS], const uint8_t *list,
+uint32_t pomrozek_list(const uint8_t board[POMROZEK_BOARD_BYTES],
+                       uint16_t access[POMROZEK_ACCESS_WORDS], const uint8_t *list,
                        size_t list_len);
 
 /*
  * Carries out one message.
  *
+ * board        the board memory, only read
  * access       the access memory, only read
  * records      the record memory; changed only on OK, and only the named processor's words, of
- *              which the control word of 33 is 32's
+ *              which the control word may be its cluster's
  * channel      host of the queue that the message came in on, never taken from the message
  * message      the message from its eight-byte header on, only read; bytes beyond its structure are
  *              ignored
@@ -126,7 +187,8 @@ uint32_t pomrozek_list(uint16_t access[POMROZEK_ACCESS_WORDS], const uint8_t *li
  * Returns the outcome, by enum pomrozek_outcome. It is for the log: the answer says ACK or NAK
  * alone.
  */
-uint32_t pomrozek_message(const uint16_t access[POMROZEK_ACCESS_WORDS],
+uint32_t pomrozek_message(const uint8_t board[POMROZEK_BOARD_BYTES],
+                          const uint16_t access[POMROZEK_ACCESS_WORDS],
                           uint32_t records[POMROZEK_RECORD_WORDS], uint8_t channel,
                           const uint8_t *message, size_t message_len, const uint32_t *status,
                           size_t status_len, uint8_t *answer, size_t answer_len,

@@ -1,11 +1,11 @@
 //! The access list: how it is judged (A1 to A8), what accepting it leaves in memory, and who is
 //! permitted for a processor.
 
-use crate::board::{can_send, is_board_host, row_of, NO_HOST, PROCESSORS};
+use crate::board::{Board, NO_HOST, ROWS};
 use crate::bytes::u16_at;
 
 /// Words of access memory: the acceptance word, then four words a row.
-pub const ACCESS_WORDS: usize = 1 + ENTRY_WORDS * PROCESSORS.len();
+pub const ACCESS_WORDS: usize = 1 + ENTRY_WORDS * ROWS;
 
 /// Access memory as it is lent. Word 0 is nonzero once a list was accepted. Each row has the
 /// recovery master (0 for no entry) and three secondaries (0 for unused). Any content is a state.
@@ -61,11 +61,11 @@ pub const LIST_FAULTS: [ListFault; 8] = [
 
 /// Takes the list, or says the first fault. All of the memory is rewritten by an accepted list and
 /// none of it by a refused one.
-pub fn accept_list(access: &mut AccessMemory, list: &[u8]) -> Result<(), ListFault> {
+pub fn accept_list(board: &Board, access: &mut AccessMemory, list: &[u8]) -> Result<(), ListFault> {
     if has_list(access) {
         return Err(ListFault::A1);
     }
-    *access = read_list(list)?;
+    *access = read_list(board, list)?;
     Ok(())
 }
 
@@ -75,7 +75,7 @@ pub fn has_list(access: &AccessMemory) -> bool {
 }
 
 /// The memory that the list leaves, or its first fault of A2 to A8.
-fn read_list(list: &[u8]) -> Result<AccessMemory, ListFault> {
+fn read_list(board: &Board, list: &[u8]) -> Result<AccessMemory, ListFault> {
     if list.len() != LIST_BYTES {
         return Err(ListFault::A2);
     }
@@ -87,40 +87,43 @@ fn read_list(list: &[u8]) -> Result<AccessMemory, ListFault> {
     }
     let mut access = [0; ACCESS_WORDS];
     access[0] = ACCEPTED;
-    for entry in list[LIST_HEADER_BYTES..].chunks_exact(ENTRY_BYTES) {
-        add_entry(&mut access, entry)?;
+    let entries: Vec<_> = list[LIST_HEADER_BYTES..].chunks_exact(ENTRY_BYTES).collect();
+    // Processor 0 marks an unused entry, whatever follows it.
+    for place in (0..entries.len()).filter(|&place| entries[place][0] != 0) {
+        let (row, words) = read_entry(board, entries[place], &entries[..place])?;
+        row_words_mut(&mut access, row).copy_from_slice(&words);
     }
     Ok(access)
 }
 
-/// Adds one nine-byte entry to the rows. Processor 0 marks an unused entry, whatever follows it.
-fn add_entry(access: &mut AccessMemory, entry: &[u8]) -> Result<(), ListFault> {
-    if entry[0] == 0 {
-        return Ok(());
-    }
-    let row = row_of(entry[0]).ok_or(ListFault::A5)?;
+/// Row, master and secondaries of a used entry, or its first fault of A5 to A8. A repeat is one of
+/// the processor's number, also on a board where two numbers have one row.
+fn read_entry(
+    board: &Board,
+    entry: &[u8],
+    earlier: &[&[u8]],
+) -> Result<(usize, [u16; ENTRY_WORDS]), ListFault> {
+    let row = board.row_of(entry[0]).ok_or(ListFault::A5)?;
     let words = [1, 3, 5, 7].map(|at| u16_at(entry, at));
-    // A used entry has a master other than 0, so the row tells whether there was one.
-    if has_entry(access, row) {
+    if earlier.iter().any(|other| other[0] == entry[0]) {
         return Err(ListFault::A6);
     }
-    if !can_send(words[0]) {
+    if !board.can_send(words[0]) {
         return Err(ListFault::A7);
     }
     // Host 0 is on the board, so this admits an unused secondary as well.
-    if !words[1..].iter().all(|&secondary| is_board_host(secondary)) {
+    if !words[1..].iter().all(|&secondary| board.has_host(secondary)) {
         return Err(ListFault::A8);
     }
-    row_words_mut(access, row).copy_from_slice(&words);
-    Ok(())
+    Ok((row, words))
 }
 
 /// Whether `host` is permitted for the processor in `row`.
-pub fn is_permitted(access: &AccessMemory, row: usize, host: u16) -> bool {
+pub fn is_permitted(board: &Board, access: &AccessMemory, row: usize, host: u16) -> bool {
     if has_entry(access, row) {
         host != NO_HOST && row_words(access, row).contains(&host)
     } else {
-        can_send(host)
+        board.can_send(host)
     }
 }
 
@@ -129,7 +132,8 @@ pub fn is_recovery_master(access: &AccessMemory, row: usize, host: u16) -> bool 
     host != NO_HOST && row_words(access, row)[0] == host
 }
 
-fn has_entry(access: &AccessMemory, row: usize) -> bool {
+/// Whether the row has a master, which every used entry has.
+pub fn has_entry(access: &AccessMemory, row: usize) -> bool {
     row_words(access, row)[0] != NO_HOST
 }
 

@@ -3,11 +3,13 @@
 
 use crate::message::ANSWER_BYTES;
 
+mod boards;
 mod cluster;
 
 /// One thing that happens in a case. The line is what has to be printed.
 #[derive(Clone, Debug)]
 pub enum Step {
+    Board { description: Vec<u8>, line: &'static str },
     List { list: Vec<u8>, line: &'static str },
     Status { words: Vec<u32> },
     Message { channel: u8, message: Vec<u8>, room: usize, line: &'static str },
@@ -16,7 +18,7 @@ pub enum Step {
 /// A named run of steps from the start.
 #[derive(Clone, Debug)]
 pub struct Case {
-    pub name: &'static str,
+    pub name: String,
     pub steps: Vec<Step>,
 }
 
@@ -52,7 +54,8 @@ const CONFIG_NO_VECTOR: &str =
 const WAIT: &str =
     "01 C4 03 0E 02 00 00 00 01 0A 02 02 00 00 00 00 00 03 00 00 00 10 00 00 00 00 00 00 00";
 
-/// Every fixed case.
+/// Every fixed case: those of document 01's board as it stands at the start, the same on that board
+/// once it is described, and those of other boards.
 pub fn cases() -> Vec<Case> {
     let groups = [list_cases(), request_cases(), handover_cases(), config_cases(), wait_cases()];
     let mut cases = groups.concat();
@@ -61,7 +64,8 @@ pub fn cases() -> Vec<Case> {
     cases.extend(processor_cases());
     cases.extend(cluster::cases());
     cases.push(worked_session());
-    cases
+    let described: Vec<_> = cases.iter().map(boards::described).collect();
+    [cases, described, boards::cases()].concat()
 }
 
 /// The bytes that a text of hexadecimal pairs spells.
@@ -97,13 +101,13 @@ fn sends_bytes(message: Vec<u8>, room: usize, line: &'static str) -> Step {
 }
 
 /// A case that starts with the bench list.
-fn case(name: &'static str, steps: &[Step]) -> Case {
+fn case(name: &str, steps: &[Step]) -> Case {
     let first = list_step(bench_list(), "list OK");
-    Case { name, steps: [&[first], steps].concat() }
+    Case { name: name.to_string(), steps: [&[first], steps].concat() }
 }
 
 /// A case that starts with the bench list and host 3 controlling processor 1.
-fn controlled(name: &'static str, steps: &[Step]) -> Case {
+fn controlled(name: &str, steps: &[Step]) -> Case {
     case(name, &[&[sends(REQUEST, REQUEST_OK)], steps].concat())
 }
 
@@ -114,8 +118,8 @@ fn list_cases() -> Vec<Case> {
     vec![
         case("list accepted", &[]),
         case("second list", &[list_step(bench_list(), "list A1")]),
-        Case { name: "master 266", steps: vec![list_step(master_266, "list A7")] },
-        Case { name: "291 bytes", steps: vec![list_step(short, "list A2")] },
+        Case { name: "master 266".to_string(), steps: vec![list_step(master_266, "list A7")] },
+        Case { name: "291 bytes".to_string(), steps: vec![list_step(short, "list A2")] },
     ]
 }
 
@@ -309,7 +313,7 @@ fn listed_processors() -> Case {
     let mut steps: Vec<_> = refused.map(|byte| list_step(naming(byte), "list A5")).collect();
     steps.push(list_step(naming(33), "list OK"));
     steps.push(list_step(naming(3), "list A1"));
-    Case { name: "every processor byte in lists", steps }
+    Case { name: "every processor byte in lists".to_string(), steps }
 }
 
 fn on_board(byte: u8) -> bool {

@@ -1,14 +1,16 @@
 //! A second implementation of the processor boot manager, written from its papers alone, and the
 //! harness that compares it with the first.
 //!
-//! `board`, `bytes`, `outcome`, `record`, `message` and `wait` are the parts; `access` and
-//! `manager` are the list call and the message call over lent memory; `session` replays
-//! recordings. `bench` has the fixed cases, and `harness` makes and compares the random ones.
+//! `board`, `bytes`, `outcome`, `record`, `message` and `wait` are the parts; `description`,
+//! `access` and `manager` are the board call, the list call and the message call over lent memory;
+//! `session` replays recordings. `bench` has the fixed cases, and `harness` makes and compares the
+//! random ones.
 
 pub mod access;
 pub mod bench;
 pub mod board;
 pub mod bytes;
+pub mod description;
 pub mod harness;
 pub mod manager;
 pub mod message;

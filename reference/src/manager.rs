@@ -1,7 +1,7 @@
 //! The message call: the outcomes in the order of their tests, the effect of OK, and the answer.
 
 use crate::access::{has_list, is_permitted, is_recovery_master, AccessMemory};
-use crate::board::{can_send, flag_mask, row_of, Class, Word, PROCESSORS};
+use crate::board::{flag_mask, Board, Class, Word};
 use crate::message::{
     read_order, status_fields, ConfigChange, FlagChange, Header, Order, ANSWER_BYTES, HEADER_BYTES,
     LONGEST_MESSAGE,
@@ -26,9 +26,17 @@ pub struct Call<'a> {
     pub status: &'a [u32],
 }
 
+/// What messages are judged by and do not change.
+#[derive(Clone, Copy, Debug)]
+pub struct Setup<'a> {
+    pub board: &'a Board,
+    pub access: &'a AccessMemory,
+}
+
 /// The processor that a message names, and what is remembered of it.
 struct Target<'a> {
-    access: &'a AccessMemory,
+    setup: Setup<'a>,
+    processor: u8,
     row: usize,
     record: Record,
 }
@@ -53,15 +61,10 @@ impl Ending {
 
 /// Judges and carries out one message. Records change on OK alone. The answer goes to the start of
 /// the buffer, and the bytes beyond it keep their values.
-pub fn handle(
-    access: &AccessMemory,
-    records: &mut RecordMemory,
-    call: &Call,
-    answer: &mut [u8],
-) -> Report {
-    let ending = judge(access, records, call, answer.len());
+pub fn handle(setup: Setup, records: &mut RecordMemory, call: &Call, answer: &mut [u8]) -> Report {
+    let ending = judge(setup, records, call, answer.len());
     if let Some((row, record)) = ending.change {
-        record.store(records, row);
+        record.store(setup.board, records, row);
     }
     Report {
         outcome: ending.outcome,
@@ -72,13 +75,14 @@ pub fn handle(
 }
 
 /// Decides the ending. Nothing is changed yet.
-fn judge(access: &AccessMemory, records: &RecordMemory, call: &Call, room: usize) -> Ending {
-    let found = check_lengths(call.message, room).and_then(|()| find_order(access, call));
-    let (row, order) = match found {
+fn judge(setup: Setup, records: &RecordMemory, call: &Call, room: usize) -> Ending {
+    let found = check_lengths(call.message, room).and_then(|()| find_order(setup, call));
+    let (processor, row, order) = match found {
         Ok(found) => found,
         Err(outcome) => return Ending::plain(outcome),
     };
-    let target = Target { access, row, record: Record::load(records, row) };
+    let record = Record::load(setup.board, records, row);
+    let target = Target { setup, processor, row, record };
     if !target.grants(call.channel, &order) {
         return Ending::plain(Outcome::N7);
     }
@@ -96,18 +100,19 @@ fn check_lengths(message: &[u8], room: usize) -> Result<(), Outcome> {
     Ok(())
 }
 
-/// N1 to N6: the row that the message names, and its order. The message has a header.
-fn find_order(access: &AccessMemory, call: &Call) -> Result<(usize, Order), Outcome> {
-    if !has_list(access) {
+/// N1 to N6: the processor that the message names, its row, and the order. The message has a
+/// header.
+fn find_order(setup: Setup, call: &Call) -> Result<(u8, usize, Order), Outcome> {
+    if !has_list(setup.access) {
         return Err(Outcome::N1);
     }
     let header_host = call.message[2];
-    if !can_send(u16::from(call.channel)) || call.channel != header_host {
+    if !setup.board.can_send(u16::from(call.channel)) || call.channel != header_host {
         return Err(Outcome::N2);
     }
     let (processor, order) = read_order(call.message)?;
-    let row = row_of(processor).ok_or(Outcome::N6)?;
-    Ok((row, order))
+    let row = setup.board.row_of(processor).ok_or(Outcome::N6)?;
+    Ok((processor, row, order))
 }
 
 impl Target<'_> {
@@ -124,15 +129,15 @@ impl Target<'_> {
     /// A free processor goes to any permitted host, and any processor to its recovery master.
     fn grants_request(&self, sender: u8) -> bool {
         let first = self.record.is_free() && self.permits(sender);
-        first || is_recovery_master(self.access, self.row, u16::from(sender))
+        first || is_recovery_master(self.setup.access, self.row, u16::from(sender))
     }
 
     fn permits(&self, host: u8) -> bool {
-        is_permitted(self.access, self.row, u16::from(host))
+        is_permitted(self.setup.board, self.setup.access, self.row, u16::from(host))
     }
 
     fn class(&self) -> Class {
-        PROCESSORS[self.row].class
+        self.setup.board.class_at(self.row)
     }
 
     /// What a sender with the right to the order gets: N8, R3, N9 or OK.
@@ -191,8 +196,7 @@ impl Target<'_> {
         match status.first() {
             None => Ending::plain(Outcome::R3),
             Some(&now) => {
-                let processor = PROCESSORS[self.row].number;
-                let fields = status_fields(processor, &self.record, now);
+                let fields = status_fields(self.processor, &self.record, now);
                 Ending { fields, ..Ending::plain(Outcome::OK) }
             }
         }

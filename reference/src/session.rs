@@ -3,8 +3,10 @@
 use std::io::{self, ErrorKind, Read, Write};
 
 use crate::access::{accept_list, AccessMemory, ListFault, ACCESS_WORDS};
+use crate::board::Board;
 use crate::bytes::{u16_at, u32_at};
-use crate::manager::{handle, Call};
+use crate::description::{take_board, BoardFault};
+use crate::manager::{handle, Call, Setup};
 use crate::message::ANSWER_BYTES;
 use crate::outcome::Report;
 use crate::record::{RecordMemory, RECORD_WORDS};
@@ -18,6 +20,15 @@ pub const TAG_STATUS: u8 = 2;
 /// Tag of a field that holds the channel host and a message.
 pub const TAG_MESSAGE: u8 = 3;
 
+/// Tag of a field that holds a board description.
+pub const TAG_BOARD: u8 = 6;
+
+/// Every good tag.
+pub const TAGS: [u8; 4] = [TAG_LIST, TAG_STATUS, TAG_MESSAGE, TAG_BOARD];
+
+/// The longest description that a recording can hold: 64 hosts and 32 processors.
+pub const LONGEST_BOARD: usize = 512;
+
 const LONGEST_LIST: usize = 512;
 const LONGEST_STATUS: usize = 1020;
 const LONGEST_MESSAGE_FIELD: usize = 512;
@@ -29,6 +40,7 @@ pub enum Event {
     /// new status words stand; nothing is printed
     Status,
     Message(Report, [u8; ANSWER_BYTES]),
+    Board(Result<(), BoardFault>),
     /// a bad tag or length; nothing follows
     Bad,
     /// a field cut off; nothing follows
@@ -40,6 +52,8 @@ pub struct Session<R> {
     input: R,
     ended: bool,
     body: Vec<u8>,
+    /// what the descriptions have left
+    pub board: Board,
     /// what the lists have left
     pub access: AccessMemory,
     /// what the messages have left
@@ -49,12 +63,14 @@ pub struct Session<R> {
 }
 
 impl<R: Read> Session<R> {
-    /// Starts with no list, all processors free, all words zero and no status words.
+    /// Starts with the first board, no list, all processors free, all words zero and no status
+    /// words.
     pub fn new(input: R) -> Session<R> {
         Session {
             input,
             ended: false,
             body: Vec::new(),
+            board: Board::first(),
             access: [0; ACCESS_WORDS],
             records: [0; RECORD_WORDS],
             status: Vec::new(),
@@ -64,6 +80,11 @@ impl<R: Read> Session<R> {
     /// The body of the last field: for a message, the channel host and the message.
     pub fn body(&self) -> &[u8] {
         &self.body
+    }
+
+    /// What the next message is judged by.
+    pub fn setup(&self) -> Setup<'_> {
+        Setup { board: &self.board, access: &self.access }
     }
 
     /// Replays the next field; none once the recording is over.
@@ -82,7 +103,7 @@ impl<R: Read> Session<R> {
         if read_up_to(&mut self.input, &mut tag)? == 0 {
             return Ok(None);
         }
-        if !(TAG_LIST..=TAG_MESSAGE).contains(&tag[0]) {
+        if !TAGS.contains(&tag[0]) {
             return Ok(Some(Event::Bad));
         }
         let mut length = [0; 2];
@@ -103,7 +124,8 @@ impl<R: Read> Session<R> {
     /// Runs the field whose body was read.
     fn run(&mut self, tag: u8) -> Event {
         match tag {
-            TAG_LIST => Event::List(accept_list(&mut self.access, &self.body)),
+            TAG_LIST => Event::List(accept_list(&self.board, &mut self.access, &self.body)),
+            TAG_BOARD => Event::Board(take_board(&mut self.board, &self.access, &self.body)),
             TAG_STATUS => {
                 self.status.clear();
                 self.status.extend(self.body.chunks_exact(4).map(|word| u32_at(word, 0)));
@@ -116,7 +138,8 @@ impl<R: Read> Session<R> {
     fn run_message(&mut self) -> Event {
         let call = call_of(&self.body, &self.status);
         let mut answer = [0; ANSWER_BYTES];
-        let report = handle(&self.access, &mut self.records, &call, &mut answer);
+        let setup = Setup { board: &self.board, access: &self.access };
+        let report = handle(setup, &mut self.records, &call, &mut answer);
         Event::Message(report, answer)
     }
 }
@@ -130,6 +153,7 @@ pub fn call_of<'a>(body: &'a [u8], status: &'a [u32]) -> Call<'a> {
 fn is_good_length(tag: u8, length: usize) -> bool {
     match tag {
         TAG_LIST => length <= LONGEST_LIST,
+        TAG_BOARD => length <= LONGEST_BOARD,
         TAG_STATUS => length <= LONGEST_STATUS && length.is_multiple_of(4),
         _ => (1..=LONGEST_MESSAGE_FIELD).contains(&length),
     }
@@ -156,6 +180,8 @@ pub fn write_line(out: &mut impl Write, event: &Event) -> io::Result<()> {
         Event::List(Err(fault)) => writeln!(out, "list {fault:?}"),
         Event::Status => Ok(()),
         Event::Message(report, answer) => write_message_line(out, report, answer),
+        Event::Board(Ok(())) => writeln!(out, "board OK"),
+        Event::Board(Err(fault)) => writeln!(out, "board {fault:?}"),
         Event::Bad => writeln!(out, "bad record"),
         Event::Cut => writeln!(out, "cut record"),
     }

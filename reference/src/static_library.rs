@@ -1,13 +1,24 @@
-//! The first implementation's two functions, by their C declarations, behind safe wrappers.
+//! The first implementation's four functions, by their C declarations, behind safe wrappers.
 
 use crate::access::{AccessMemory, ACCESS_WORDS};
+use crate::board::{BoardMemory, BOARD_BYTES};
 use crate::manager::Call;
 use crate::record::{RecordMemory, RECORD_WORDS};
 
 extern "C" {
-    fn pomrozek_list(access: *mut u16, list: *const u8, list_len: usize) -> u32;
+    fn pomrozek_start(board: *mut u8);
+
+    fn pomrozek_board(
+        board: *mut u8,
+        access: *const u16,
+        description: *const u8,
+        description_len: usize,
+    ) -> u32;
+
+    fn pomrozek_list(board: *const u8, access: *mut u16, list: *const u8, list_len: usize) -> u32;
 
     fn pomrozek_message(
+        board: *const u8,
         access: *const u16,
         records: *mut u32,
         channel: u8,
@@ -22,7 +33,7 @@ extern "C" {
 }
 
 // The lengths that the C declarations name.
-const _: () = assert!(ACCESS_WORDS == 17 && RECORD_WORDS == 20);
+const _: () = assert!(BOARD_BYTES == 576 && ACCESS_WORDS == 129 && RECORD_WORDS == 160);
 
 /// What the message call gave: outcome number, checks, microseconds, bytes written.
 #[derive(Clone, Copy, Debug, PartialEq, Eq)]
@@ -36,14 +47,31 @@ pub struct RawReport {
 /// A number that no report has, so that a field left unwritten is seen.
 const UNWRITTEN: u32 = 0xAAAA_AAAA;
 
+/// The start call, which fills the memory with the first board.
+pub fn start(board: &mut BoardMemory) {
+    // SAFETY: the pointer is valid for the length that the declaration gives.
+    unsafe { pomrozek_start(board.as_mut_ptr()) }
+}
+
+/// The board call: 0 if the description is taken, 1 for A1, 201 to 206 for D1 to D6.
+pub fn board(board: &mut BoardMemory, access: &AccessMemory, description: &[u8]) -> u32 {
+    // SAFETY: each pointer is valid for the length that the declaration gives or that is passed,
+    // and what may be written does not overlap anything else.
+    unsafe {
+        pomrozek_board(board.as_mut_ptr(), access.as_ptr(), description.as_ptr(), description.len())
+    }
+}
+
 /// The list call: 0 if it is accepted, 1 to 8 for A1 to A8.
-pub fn list(access: &mut AccessMemory, list: &[u8]) -> u32 {
-    // SAFETY: each pointer is valid for the length that the declaration gives or that is passed.
-    unsafe { pomrozek_list(access.as_mut_ptr(), list.as_ptr(), list.len()) }
+pub fn list(board: &BoardMemory, access: &mut AccessMemory, list: &[u8]) -> u32 {
+    // SAFETY: each pointer is valid for the length that the declaration gives or that is passed,
+    // and what may be written does not overlap anything else.
+    unsafe { pomrozek_list(board.as_ptr(), access.as_mut_ptr(), list.as_ptr(), list.len()) }
 }
 
 /// The message call.
 pub fn message(
+    board: &BoardMemory,
     access: &AccessMemory,
     records: &mut RecordMemory,
     call: &Call,
@@ -54,6 +82,7 @@ pub fn message(
     // and what may be written does not overlap anything else.
     let outcome = unsafe {
         pomrozek_message(
+            board.as_ptr(),
             access.as_ptr(),
             records.as_mut_ptr(),
             call.channel,

@@ -1,20 +1,16 @@
--- The access memory, 17 words of 16 bits, read as the rules have it. Word 0 is not 0 once a list was accepted. Then each row has four
+-- The access memory, 129 words of 16 bits, read as the rules have it. Word 0 is not 0 once a list was accepted. Then each of 32 rows has four
 -- words: the recovery master and the three secondaries; zeros are no entry. Any content is a state. Assumes nothing.
-use Prim.Native.Nat.{ℕ, zero, suc, _+_, _*_}
+use Prim.Native.Nat.{ℕ, _+_, _*_}
 use mathlib.Core.Bool.{Bool, not, cond}
-use mathlib.Core.List.{List, [], _∷_}
+use mathlib.Core.List.{List, []}
 use lib.ListN.{getD}
 use lib.Dec.{eqb}
 use Rattle.rules.specs.declared.Record.{Record}
-use Rattle.rules.specs.Board.{ours, rows}
+use Rattle.rules.specs.Table.{tableOf}
+use Rattle.rules.specs.Board.{Board, rows}
 use Rattle.rules.specs.AccessList.{Entry}
 use Rattle.rules.specs.Outcome.{View}
 use Rattle.rules.specs.State.{Source, nothing, aList, listed, Setup}
-
--- what f says of n rows, from `row` on
-unfoldable pub byRow : {A : Type 0} → (ℕ → A) → ℕ → ℕ → List A
-byRow f row zero = []
-byRow f row (suc n) = f row ∷ byRow f (suc row) n
 
 unfoldable pub listedIn : List ℕ → Bool
 listedIn m = not (eqb (getD m 0 0) 0)
@@ -33,20 +29,20 @@ entryAt m row =
     }
 
 unfoldable pub entriesIn : List ℕ → List Entry
-entriesIn m = byRow (entryAt m) 0 (rows ours)
+entriesIn m = tableOf (entryAt m) 0 rows
 
 -- that a list was accepted, without its bytes: the memory does not keep them, and no outcome, answer or record depends on them
 unfoldable pub someList : Bool → Source
 someList taken = cond taken (aList []) nothing
 
--- the rules' set-up, read out of the memory
-unfoldable pub setupIn : List ℕ → Setup
-setupIn m = record { board = ours; source = someList (listedIn m); entries = entriesIn m }
+-- the rules' set-up on a board, read out of the memory
+unfoldable pub setupIn : Board → List ℕ → Setup
+setupIn b m = record { board = b; source = someList (listedIn m); entries = entriesIn m }
 
 -- what the memory keeps of a set-up
 unfoldable pub keptSetup : Setup → Setup
 keptSetup setup = record { board = setup .board; source = someList (listed (setup .source)); entries = setup .entries }
 
 -- what a call about the processor at a row sees, with its record at hand
-abbrev pub viewWith : List ℕ → ℕ → Record → View
-viewWith m row state = record { board = ours; listed = listedIn m; entry = entryAt m row; state = state }
+abbrev pub viewWith : Board → List ℕ → ℕ → Record → View
+viewWith b m row state = record { board = b; listed = listedIn m; entry = entryAt m row; state = state }

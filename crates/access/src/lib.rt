@@ -2,8 +2,8 @@
 // Its layout is specs/Memory.antt; any content of it is a state. Hosts are 16-bit numbers throughout.
 ghost use mathlib.Core.Path.{_≡_};
 ghost use lib.ListN.{getD};
-ghost use Rattle.rules.specs.Board.{ours};
 ghost use Rattle.rules.specs.AccessList.{permitted, isMaster};
+ghost use Rattle.board.specs.Memory.{boardIn};
 ghost use Rattle.access.specs.Memory.{listedIn, entryAt};
 use board::is_active;
 
@@ -26,13 +26,13 @@ pub fn is_listed(access: &[u16]) -> bool
 
 // Whether `host` is permitted for the processor at `row`: with an entry its master and its used
 // secondaries, without one every board host but 0.
-pub fn is_permitted(access: &[u16], row: u8, host: u16) -> bool
-    ensures { λ r. ⌜ r ≡ permitted ours (entryAt (now (access .entry)) row) host ⌝ }
+pub fn is_permitted(board: &[u8; 576], access: &[u16], row: u8, host: u16) -> bool
+    ensures { λ r. ⌜ r ≡ permitted (boardIn (now (board .entry))) (entryAt (now (access .entry)) row) host ⌝ }
 {
     let at = 1 + 4 * (row as usize);
     let master = word_at(access, at);
     if master == 0 {
-        return is_active(host);
+        return is_active(board, host);
     }
     let first = word_at(access, at + 1);
     let second = word_at(access, at + 2);

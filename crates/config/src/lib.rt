@@ -3,6 +3,7 @@
 // called. OK changes the record in the lent memory, and a refusal leaves it.
 ghost use mathlib.Core.List.{[]};
 ghost use Rattle.rules.specs.declared.Kind.the-variants.{SetConfig};
+ghost use Rattle.board.specs.Memory.{boardIn};
 ghost use Rattle.operations.specs.Operation.{asked, CarriesByController};
 use board::ROWS;
 use board::class_at;
@@ -16,21 +17,26 @@ use rules::Outcome;
 
 // Set config: the sender is the controller, and flags and vector may be set. The config word is
 // changed, and the vector stored unless bit 28 is named.
-pub fn set_config(records: &mut [u32], channel: u8, message: &[u8]) -> Outcome
-    ensures { λ r. ⌜ CarriesByController SetConfig (now (records .entry)) (asked channel (now (message .entry)) []) (now (records .exit)) r ⌝ }
+pub fn set_config(
+    board: &[u8; 576],
+    records: &mut [u32; 160],
+    channel: u8,
+    message: &[u8],
+) -> Outcome
+    ensures { λ r. ⌜ CarriesByController (boardIn (now (board .entry))) SetConfig (now (records .entry)) (asked channel (now (message .entry)) []) (now (records .exit)) r ⌝ }
 {
     if message.len() < 25 {
         return Outcome::N4;
     }
-    let row = row_in(message);
+    let row = row_in(board, message);
     if ROWS <= row {
         return Outcome::N6;
     }
-    let state = load(records, row);
+    let state = load(board, &records[..], row);
     if !is_controller(state, channel) {
         return Outcome::N7;
     }
-    if !config_good(class_at(row), message) {
+    if !config_good(class_at(board, row), message) {
         return Outcome::N8;
     }
     store_own(records, row, with_config(message, state));

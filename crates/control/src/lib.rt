@@ -3,6 +3,7 @@
 // OK changes the word in the lent memory, and a refusal leaves it.
 ghost use mathlib.Core.List.{[]};
 ghost use Rattle.rules.specs.declared.Kind.the-variants.{SetControl};
+ghost use Rattle.board.specs.Memory.{boardIn};
 ghost use Rattle.operations.specs.Operation.{asked, CarriesByController};
 use board::ROWS;
 use board::class_at;
@@ -16,24 +17,29 @@ use rules::Outcome;
 
 // Set control: the sender is the controller of the processor that it names, and the flags may be set.
 // The control word is changed, for its cluster too.
-pub fn set_control(records: &mut [u32], channel: u8, message: &[u8]) -> Outcome
-    ensures { λ r. ⌜ CarriesByController SetControl (now (records .entry)) (asked channel (now (message .entry)) []) (now (records .exit)) r ⌝ }
+pub fn set_control(
+    board: &[u8; 576],
+    records: &mut [u32; 160],
+    channel: u8,
+    message: &[u8],
+) -> Outcome
+    ensures { λ r. ⌜ CarriesByController (boardIn (now (board .entry))) SetControl (now (records .entry)) (asked channel (now (message .entry)) []) (now (records .exit)) r ⌝ }
 {
     if message.len() < 17 {
         return Outcome::N4;
     }
-    let row = row_in(message);
+    let row = row_in(board, message);
     if ROWS <= row {
         return Outcome::N6;
     }
-    let state = load(records, row);
+    let state = load(board, &records[..], row);
     if !is_controller(state, channel) {
         return Outcome::N7;
     }
-    if !control_good(class_at(row), message) {
+    if !control_good(class_at(board, row), message) {
         return Outcome::N8;
     }
     let next = with_control(message, state);
-    store_control(records, row, next.control);
+    store_control(board, records, row, next.control);
     Outcome::Ok
 }

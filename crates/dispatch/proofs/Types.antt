@@ -10,6 +10,7 @@ use Rattle.rules.specs.declared.Outcome.{Outcome}
 use Rattle.rules.specs.declared.Outcome.the-variants.{N3, Ok}
 use Rattle.rules.specs.declared.Record.{Record}
 use Rattle.rules.specs.Table.{firstOf}
+use Rattle.rules.specs.Board.{Board}
 use Rattle.rules.specs.Message.{Query, query, isKind, kindIn, subjectOf}
 use Rattle.rules.specs.Outcome.{View, typeUnknown, byWords, wordsMissing, waitFailed, carriedOut}
 use Rattle.rules.specs.Effect.{effectOf}
@@ -28,50 +29,50 @@ unfolding decisionOn waited
 plain k q o other = rw other
 
 -- types that change no record leave the memory
-unchanged : (k : Kind) (memory : List ℕ) (q : Query) (o : Outcome) → ((r : Record) → effectOf k q r ≡ r) → memory ≡ memoryAfter k o memory q
+unchanged : (b : Board) (k : Kind) (memory : List ℕ) (q : Query) (o : Outcome) → ((r : Record) → effectOf k q r ≡ r) → memory ≡ memoryAfter b k o memory q
 unfolding memoryAfter
-unchanged k memory q o same =
-    let kept : withRecord memory (rowIn q) (effectOf k q (recordAt memory (rowIn q))) ≡ memory =
-    ap (withRecord memory (rowIn q)) (same (recordAt memory (rowIn q))) ∙ store-same memory (rowIn q)
+unchanged b k memory q o same =
+    let kept : withRecord b memory (rowIn b q) (effectOf k q (recordAt b memory (rowIn b q))) ≡ memory =
+    ap (withRecord b memory (rowIn b q)) (same (recordAt b memory (rowIn b q))) ∙ store-same b memory (rowIn b q)
     in
     ⊎-elim (λ t. sym (cond-true _ memory t ∙ kept)) (λ f. sym (cond-false _ memory f)) (decide (carriedOut o))
 
 -- an effect needs no status word and no answer room
-pub same-effect : (k : Kind) (o : Outcome) (memory : List ℕ) (channel : ℕ) (m words words′ : List ℕ) (room room′ : ℕ)
-    → memoryAfter k o memory (query channel m words room) ≡ memoryAfter k o memory (query channel m words′ room′)
+pub same-effect : (b : Board) (k : Kind) (o : Outcome) (memory : List ℕ) (channel : ℕ) (m words words′ : List ℕ) (room room′ : ℕ)
+    → memoryAfter b k o memory (query channel m words room) ≡ memoryAfter b k o memory (query channel m words′ room′)
 unfolding memoryAfter subjectOf
-same-effect Request o memory channel m words words′ room room′ = refl
-same-effect Release o memory channel m words words′ room room′ = refl
-same-effect Handover o memory channel m words words′ room room′ = refl
-same-effect SetConfig o memory channel m words words′ room room′ = refl
-same-effect SetControl o memory channel m words words′ room room′ = refl
-same-effect AuthBoot o memory channel m words words′ room room′ = refl
-same-effect GetStatus o memory channel m words words′ room room′ = refl
-same-effect WaitStatus o memory channel m words words′ room room′ = refl
-same-effect Other o memory channel m words words′ room room′ = refl
+same-effect b Request o memory channel m words words′ room room′ = refl
+same-effect b Release o memory channel m words words′ room room′ = refl
+same-effect b Handover o memory channel m words words′ room room′ = refl
+same-effect b SetConfig o memory channel m words words′ room room′ = refl
+same-effect b SetControl o memory channel m words words′ room room′ = refl
+same-effect b AuthBoot o memory channel m words words′ room room′ = refl
+same-effect b GetStatus o memory channel m words words′ room room′ = refl
+same-effect b WaitStatus o memory channel m words words′ room room′ = refl
+same-effect b Other o memory channel m words words′ room room′ = refl
 
-module _ (access memory : List ℕ) (channel : ℕ) (m words : List ℕ) where
+module _ (b : Board) (access memory : List ℕ) (channel : ℕ) (m words : List ℕ) where
   abbrev q : Query
   q = asked channel m words
 
   abbrev v : View
-  v = viewIn access memory (rowIn q)
+  v = viewIn b access memory (rowIn b q)
 
   -- what a type's function decided and left is what the table decides and leaves
   decides : (k : Kind) (memory′ : List ℕ) (o : Outcome) → kindIn m ≡ k → o ≡ firstOf Ok (kindTable v q k)
-      → memory′ ≡ memoryAfter k o memory q → DecidesKind access memory q memory′ (decisionOn k q o)
+      → memory′ ≡ memoryAfter b k o memory q → DecidesKind b access memory q memory′ (decisionOn k q o)
   unfolding decisionOn
   decides k memory′ o is decided left =
       record {
         decision =
             ap (decisionOn k q) decided
             ∙ ap (λ (x : Kind). decisionOn x q (firstOf Ok (kindTable v q x))) (sym is);
-        records = left ∙ ap (λ (x : Kind). memoryAfter x o memory q) (sym is);
+        records = left ∙ ap (λ (x : Kind). memoryAfter b x o memory q) (sym is);
       }
 
   -- a type whose rows ask for no status word
   wordless : (k : Kind) → isKind k GetStatus ≡ false → isKind k WaitStatus ≡ false
-      → firstOf Ok (typeTable (viewIn access memory (rowIn q)) (asked channel m []) k) ≡ firstOf Ok (typeTable v q k)
+      → firstOf Ok (typeTable (viewIn b access memory (rowIn b q)) (asked channel m []) k) ≡ firstOf Ok (typeTable v q k)
   unfolding typeTable byWords wordsMissing waitFailed subjectOf
   wordless Request g w = refl
   wordless Release g w = refl
@@ -104,37 +105,37 @@ module _ (access memory : List ℕ) (channel : ℕ) (m words : List ℕ) where
 
   pub carried : (k : Kind) (memory′ : List ℕ) (o : Outcome) → kindIn m ≡ k
       → typeUnknown k ≡ false → isKind k GetStatus ≡ false → isKind k WaitStatus ≡ false
-      → Carries k access memory (asked channel m []) memory′ o
-      → DecidesKind access memory q memory′ (record { outcome = o; checks = 0; micros = 0 })
+      → Carries b k access memory (asked channel m []) memory′ o
+      → DecidesKind b access memory q memory′ (record { outcome = o; checks = 0; micros = 0 })
   unfolding subjectOf
   carried k memory′ o is typed g w meets =
-      subst⁻¹ (DecidesKind access memory q memory′) (plain k q o w)
+      subst⁻¹ (DecidesKind b access memory q memory′) (plain k q o w)
       (decides k memory′ o is
       (meets .outcome ∙ wordless k g w ∙ sym (known k typed))
-      (meets .records ∙ same-effect k o memory channel m [] words 0 0))
+      (meets .records ∙ same-effect b k o memory channel m [] words 0 0))
 
   pub booted : (o : Outcome) → kindIn m ≡ AuthBoot → RefusesBoot m o
-      → DecidesKind access memory q memory (record { outcome = o; checks = 0; micros = 0 })
+      → DecidesKind b access memory q memory (record { outcome = o; checks = 0; micros = 0 })
   booted o is refuses =
-      subst⁻¹ (DecidesKind access memory q memory) (plain AuthBoot q o refl)
-      (decides AuthBoot memory o is (refuses v channel words ∙ sym (known AuthBoot refl)) (unchanged AuthBoot memory q o (λ r. refl)))
+      subst⁻¹ (DecidesKind b access memory q memory) (plain AuthBoot q o refl)
+      (decides AuthBoot memory o is (refuses v channel words ∙ sym (known AuthBoot refl)) (unchanged b AuthBoot memory q o (λ r. refl)))
 
-  pub status-read : (o : Outcome) → kindIn m ≡ GetStatus → ReadsStatus access q o
-      → DecidesKind access memory q memory (record { outcome = o; checks = 0; micros = 0 })
+  pub status-read : (o : Outcome) → kindIn m ≡ GetStatus → ReadsStatus b access q o
+      → DecidesKind b access memory q memory (record { outcome = o; checks = 0; micros = 0 })
   unfolding viewIn
   status-read o is reads =
-      subst⁻¹ (DecidesKind access memory q memory) (plain GetStatus q o refl)
-      (decides GetStatus memory o is (reads (recordAt memory (rowIn q)) ∙ sym (known GetStatus refl)) (unchanged GetStatus memory q o (λ r. refl)))
+      subst⁻¹ (DecidesKind b access memory q memory) (plain GetStatus q o refl)
+      (decides GetStatus memory o is (reads (recordAt b memory (rowIn b q)) ∙ sym (known GetStatus refl)) (unchanged b GetStatus memory q o (λ r. refl)))
 
-  pub status-awaited : (d : Decision) → kindIn m ≡ WaitStatus → WaitsForStatus access q d → DecidesKind access memory q memory d
+  pub status-awaited : (d : Decision) → kindIn m ≡ WaitStatus → WaitsForStatus b access q d → DecidesKind b access memory q memory d
   unfolding viewIn
   status-awaited d is waits =
       let o = firstOf Ok (typeTable v q WaitStatus) in
-      subst⁻¹ (DecidesKind access memory q memory) (waits (recordAt memory (rowIn q)))
-      (decides WaitStatus memory o is (sym (known WaitStatus refl)) (unchanged WaitStatus memory q o (λ r. refl)))
+      subst⁻¹ (DecidesKind b access memory q memory) (waits (recordAt b memory (rowIn b q)))
+      (decides WaitStatus memory o is (sym (known WaitStatus refl)) (unchanged b WaitStatus memory q o (λ r. refl)))
 
-  pub unknown : kindIn m ≡ Other → DecidesKind access memory q memory (record { outcome = N3; checks = 0; micros = 0 })
+  pub unknown : kindIn m ≡ Other → DecidesKind b access memory q memory (record { outcome = N3; checks = 0; micros = 0 })
   unfolding kindTable firstOf
   unknown is =
-      subst⁻¹ (DecidesKind access memory q memory) (plain Other q N3 refl)
-      (decides Other memory N3 is refl (unchanged Other memory q N3 (λ r. refl)))
+      subst⁻¹ (DecidesKind b access memory q memory) (plain Other q N3 refl)
+      (decides Other memory N3 is refl (unchanged b Other memory q N3 (λ r. refl)))

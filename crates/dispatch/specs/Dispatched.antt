@@ -7,6 +7,7 @@ use Rattle.rules.specs.declared.Kind.{Kind}
 use Rattle.rules.specs.declared.Outcome.{Outcome}
 use Rattle.rules.specs.declared.Outcome.the-variants.{N3, Ok}
 use Rattle.rules.specs.Table.{Line, _gives_, firstOf}
+use Rattle.rules.specs.Board.{Board}
 use Rattle.rules.specs.Message.{Query, kindIn}
 use Rattle.rules.specs.Outcome.{View, typeUnknown}
 use Rattle.records.specs.Memory.{viewIn}
@@ -18,7 +19,7 @@ unfoldable pub kindTable : View → Query → Kind → List (Line Outcome)
 kindTable v q k = (typeUnknown k gives N3) ∷ typeTable v q k
 
 -- the rows from the type on: what they decide, and the record memory afterwards
-pub record DecidesKind (access memory : List ℕ) (q : Query) (memory′ : List ℕ) (r : Decision) : Type 0 where
+pub record DecidesKind (b : Board) (access memory : List ℕ) (q : Query) (memory′ : List ℕ) (r : Decision) : Type 0 where
   pub decision :
-      r ≡ decisionOn (kindIn (q .message)) q (firstOf Ok (kindTable (viewIn access memory (rowIn q)) q (kindIn (q .message))))
-  pub records : memory′ ≡ memoryAfter (kindIn (q .message)) (r .outcome) memory q
+      r ≡ decisionOn (kindIn (q .message)) q (firstOf Ok (kindTable (viewIn b access memory (rowIn b q)) q (kindIn (q .message))))
+  pub records : memory′ ≡ memoryAfter b (kindIn (q .message)) (r .outcome) memory q

@@ -1,6 +1,7 @@
 // The rows of document 01's outcome table from N3 on: the type decides which function carries the
 // message out. Each type's function is in a crate of its own: request, release, handover, config, control,
 // boot, watch and waits.
+ghost use Rattle.board.specs.Memory.{boardIn};
 ghost use Rattle.operations.specs.Operation.{asked};
 ghost use Rattle.dispatch.specs.Dispatched.{DecidesKind};
 use boot::authenticated_boot;
@@ -20,24 +21,25 @@ use wire::u16_at;
 
 // The rows from N3 on, by the type, with the effect of OK.
 pub fn by_kind(
+    board: &[u8; 576],
     access: &[u16],
-    records: &mut [u32],
+    records: &mut [u32; 160],
     channel: u8,
     message: &[u8],
     status: &[u32],
 ) -> Decision
-    ensures { λ r. ⌜ DecidesKind (now (access .entry)) (now (records .entry)) (asked channel (now (message .entry)) (now (status .entry))) (now (records .exit)) r ⌝ }
+    ensures { λ r. ⌜ DecidesKind (boardIn (now (board .entry))) (now (access .entry)) (now (records .entry)) (asked channel (now (message .entry)) (now (status .entry))) (now (records .exit)) r ⌝ }
 {
     let kind = kind_of(u16_at(message, 0));
     match kind {
-        Kind::Request => unwaited(request(access, records, channel, message)),
-        Kind::Release => unwaited(release(records, channel, message)),
-        Kind::Handover => unwaited(handover(access, records, channel, message)),
-        Kind::SetConfig => unwaited(set_config(records, channel, message)),
-        Kind::SetControl => unwaited(set_control(records, channel, message)),
+        Kind::Request => unwaited(request(board, access, records, channel, message)),
+        Kind::Release => unwaited(release(board, records, channel, message)),
+        Kind::Handover => unwaited(handover(board, access, records, channel, message)),
+        Kind::SetConfig => unwaited(set_config(board, records, channel, message)),
+        Kind::SetControl => unwaited(set_control(board, records, channel, message)),
         Kind::AuthBoot => unwaited(authenticated_boot(message)),
-        Kind::GetStatus => unwaited(get_status(access, channel, message, status)),
-        Kind::WaitStatus => wait_status(access, channel, message, status),
+        Kind::GetStatus => unwaited(get_status(board, access, channel, message, status)),
+        Kind::WaitStatus => wait_status(board, access, channel, message, status),
         Kind::Other => unwaited(Outcome::N3),
     }
 }

@@ -12,7 +12,7 @@ use lib.Dec.{eqb}
 use borrow.Author.Tests.{le-ltb, lt-ltb, eqb-true, ne-eqb}
 use Rattle.rules.specs.Table.{anyOf}
 use Rattle.rules.specs.Bytes.{byteAt}
-use Rattle.rules.specs.Board.{ours, activeHost, rows, rowOf, onBoard}
+use Rattle.rules.specs.Board.{Board, activeHost, rowOf, onBoard}
 use Rattle.rules.specs.AccessList.{partAt, processorIn, used, namedIn}
 use Rattle.rules.proofs.Tests.{decide}
 use Rattle.entries.specs.Entries.{partsBefore, writtenIn}
@@ -51,15 +51,16 @@ written-named (part ∷ rest) p some = ap₂ _||_ (sym (used-names part p some))
 
 -- ---- A5 and A7: what the code's tests say
 
--- of a processor p, read as q
-pub off-board : {p q row : ℕ} → row ≡ rowOf ours q → q ≡ p → 4 ≤ row → onBoard ours p ≡ false
-unfolding onBoard rows ours
-off-board {p} {q} {row} at same h = le-ltb (rowOf ours p) 4 (subst (λ (r : ℕ). 4 ≤ r) (at ∙ ap (rowOf ours) same) h)
+module _ (b : Board) where
+  -- of a processor p, read as q
+  pub off-board : {p q row : ℕ} → row ≡ rowOf b q → q ≡ p → 32 ≤ row → onBoard b p ≡ false
+  unfolding onBoard
+  off-board {p} {q} {row} at same h = le-ltb (rowOf b p) 32 (subst (λ (r : ℕ). 32 ≤ r) (at ∙ ap (rowOf b) same) h)
 
-pub on-board : {p q row : ℕ} → row ≡ rowOf ours q → q ≡ p → row < 4 → onBoard ours p ≡ true
-unfolding onBoard rows ours
-on-board {p} {q} {row} at same h = lt-ltb (rowOf ours p) 4 (subst (λ (r : ℕ). r < 4) (at ∙ ap (rowOf ours) same) h)
+  pub on-board : {p q row : ℕ} → row ≡ rowOf b q → q ≡ p → row < 32 → onBoard b p ≡ true
+  unfolding onBoard
+  on-board {p} {q} {row} at same h = lt-ltb (rowOf b p) 32 (subst (λ (r : ℕ). r < 32) (at ∙ ap (rowOf b) same) h)
 
--- of a master m, read as h
-pub master-test : {h m : ℕ} {r b : Bool} → r ≡ activeHost ours h → h ≡ m → not r ≡ b → not (activeHost ours m) ≡ b
-master-test is same told = ap not (sym (ap (activeHost ours) same) ∙ sym is) ∙ told
+  -- of a master m, read as h
+  pub master-test : {h m : ℕ} {r t : Bool} → r ≡ activeHost b h → h ≡ m → not r ≡ t → not (activeHost b m) ≡ t
+  master-test is same told = ap not (sym (ap (activeHost b) same) ∙ sym is) ∙ told

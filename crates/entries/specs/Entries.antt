@@ -7,7 +7,7 @@ use lib.Dec.{eqb}
 use Rattle.rules.specs.declared.Verdict.{Verdict}
 use Rattle.rules.specs.declared.Verdict.the-variants.{Accepted, A5, A6, A7}
 use Rattle.rules.specs.Table.{_gives_, firstOf, anyOf}
-use Rattle.rules.specs.Board.{ours, activeHost, onBoard}
+use Rattle.rules.specs.Board.{Board, activeHost, onBoard}
 use Rattle.rules.specs.AccessList.{partAt, processorIn, masterIn}
 
 -- the parts before entry e, newest first
@@ -20,7 +20,7 @@ unfoldable pub writtenIn : List (List ℕ) → ℕ → Bool
 writtenIn entries p = anyOf (λ (part : List ℕ). eqb (processorIn part) p) entries
 
 -- A5 to A7 of a used entry, where `named` says whether an earlier one names its processor
-unfoldable pub faultOf : Bool → List ℕ → Verdict
-faultOf named part =
+unfoldable pub faultOf : Board → Bool → List ℕ → Verdict
+faultOf b named part =
     firstOf Accepted
-    ((not (onBoard ours (processorIn part)) gives A5) ∷ (named gives A6) ∷ (not (activeHost ours (masterIn part)) gives A7) ∷ [])
+    ((not (onBoard b (processorIn part)) gives A5) ∷ (named gives A6) ∷ (not (activeHost b (masterIn part)) gives A7) ∷ [])

@@ -1,6 +1,7 @@
 // One entry of an access list, judged as its own nine-byte part of the list: document 01's A5 to A7,
 // and whether an entry before it names its processor. The rules are specs/Entries.antt.
 ghost use mathlib.Core.Path.{_≡_};
+ghost use Rattle.board.specs.Memory.{boardIn};
 ghost use Rattle.entries.specs.Entries.{partsBefore, writtenIn, faultOf};
 use board::ROWS;
 use board::is_active;
@@ -25,16 +26,16 @@ pub fn named_before(list: &[u8], e: u8, processor: u8) -> bool
 }
 
 // A5 to A7 of a used entry; `named` says whether an earlier one names its processor.
-pub fn check_entry(part: &[u8], named: bool) -> Verdict
-    ensures { λ r. ⌜ r ≡ faultOf named (now (part .entry)) ⌝ }
+pub fn check_entry(board: &[u8; 576], part: &[u8], named: bool) -> Verdict
+    ensures { λ r. ⌜ r ≡ faultOf (boardIn (now (board .entry))) named (now (part .entry)) ⌝ }
 {
-    if row_of(byte_at(part, 0)) >= ROWS {
+    if row_of(board, byte_at(part, 0)) >= ROWS {
         return Verdict::A5;
     }
     if named {
         return Verdict::A6;
     }
-    if !is_active(u16_at(part, 1)) {
+    if !is_active(board, u16_at(part, 1)) {
         return Verdict::A7;
     }
     Verdict::Accepted

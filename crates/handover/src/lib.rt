@@ -3,6 +3,7 @@
 // the record in the lent memory, and a refusal leaves it.
 ghost use mathlib.Core.List.{[]};
 ghost use Rattle.rules.specs.declared.Kind.the-variants.{Handover};
+ghost use Rattle.board.specs.Memory.{boardIn};
 ghost use Rattle.operations.specs.Operation.{asked, Carries};
 use access::is_permitted;
 use board::ROWS;
@@ -15,22 +16,28 @@ use rules::Outcome;
 use wire::byte_at;
 
 // Handover: the sender is the controller, and the new host is permitted. The new host controls.
-pub fn handover(access: &[u16], records: &mut [u32], channel: u8, message: &[u8]) -> Outcome
-    ensures { λ r. ⌜ Carries Handover (now (access .entry)) (now (records .entry)) (asked channel (now (message .entry)) []) (now (records .exit)) r ⌝ }
+pub fn handover(
+    board: &[u8; 576],
+    access: &[u16],
+    records: &mut [u32; 160],
+    channel: u8,
+    message: &[u8],
+) -> Outcome
+    ensures { λ r. ⌜ Carries (boardIn (now (board .entry))) Handover (now (access .entry)) (now (records .entry)) (asked channel (now (message .entry)) []) (now (records .exit)) r ⌝ }
 {
     if message.len() < 10 {
         return Outcome::N4;
     }
-    let row = row_in(message);
+    let row = row_in(board, message);
     if ROWS <= row {
         return Outcome::N6;
     }
-    let state = load(records, row);
+    let state = load(board, &records[..], row);
     if !is_controller(state, channel) {
         return Outcome::N7;
     }
     let host = byte_at(message, 9);
-    if !is_permitted(access, row, host as u16) {
+    if !is_permitted(board, access, row, host as u16) {
         return Outcome::N8;
     }
     store_own(records, row, held_by(host, state));

@@ -5,9 +5,8 @@ use native.Mathlib.Numerals.{add-one}
 use native.Mathlib.Omega.{arith}
 use mathlib.Core.Path.{_≡_, refl, sym, ap, _∙_}
 use mathlib.Core.Bool.{Bool, true, false, cond, not, _||_}
-use mathlib.Core.List.{List, [], _∷_, map}
+use mathlib.Core.List.{List, [], _∷_}
 use mathlib.Core.Logic.{⊎-elim}
-use types.Run.{OneOf}
 use lib.ListN.{length, take, drop}
 use lib.Dec.{eqb}
 use borrow.Author.Tests.{eqb-true, ne-eqb}
@@ -15,8 +14,8 @@ use Rattle.rules.specs.declared.Verdict.{Verdict}
 use Rattle.rules.specs.declared.Verdict.the-variants.{Accepted, A1, A2, A3, A4, A5, A6, A7, A8}
 use Rattle.rules.specs.Table.{firstOf, anyOf}
 use Rattle.rules.specs.Bytes.{u16At}
-use Rattle.rules.specs.Board.{ours, boardHost, activeHost, onBoard}
-use Rattle.rules.specs.AccessList.{partAt, partsFrom, processorIn, masterIn, secondariesIn, namedIn, badSecondary, entryTable, entriesTable, listTable, verdictOf, accepted}
+use Rattle.rules.specs.Board.{Board, boardHost, activeHost, onBoard}
+use Rattle.rules.specs.AccessList.{partAt, partsFrom, processorIn, masterIn, secondariesIn, namedIn, badSecondary, entryTable, entriesTable, listTable, verdictOf}
 use Rattle.rules.proofs.Tests.{decide, firstOf-append}
 use Rattle.entries.specs.Entries.{partsBefore, writtenIn, faultOf}
 use Rattle.entries.proofs.Faults.{written-named}
@@ -48,144 +47,123 @@ three-good false true c rest good = cc
 three-good false false true rest good = cc
 three-good false false false rest good = refl
 
-module _ (rest : Verdict) (earlier : List (List ℕ)) (part : List ℕ) where
+module _ (b : Board) (rest : Verdict) (earlier : List (List ℕ)) (part : List ℕ) where
   -- an unused entry is passed over
-  unused-entry : processorIn part ≡ 0 → firstOf rest (entryTable ours earlier part) ≡ rest
+  unused-entry : processorIn part ≡ 0 → firstOf rest (entryTable b earlier part) ≡ rest
   unfolding firstOf entryTable
   unused-entry none = rw none
 
   -- the four lines of a used entry
   used-entry : (processorIn part ≡ 0 → ⊥)
-      → firstOf rest (entryTable ours earlier part)
-      ≡ cond (not (onBoard ours (processorIn part))) A5
+      → firstOf rest (entryTable b earlier part)
+      ≡ cond (not (onBoard b (processorIn part))) A5
       (cond (namedIn earlier (processorIn part)) A6
-      (cond (not (activeHost ours (masterIn part))) A7
-      (cond (anyOf (badSecondary ours) (secondariesIn part)) A8 rest)))
+      (cond (not (activeHost b (masterIn part))) A7
+      (cond (anyOf (badSecondary b) (secondariesIn part)) A8 rest)))
   unfolding firstOf entryTable
   used-entry some = rw (ne-eqb (processorIn part) 0 some)
 
-  bad-entry : (processorIn part ≡ 0 → ⊥) → (faultOf (namedIn earlier (processorIn part)) part ≡ Accepted → ⊥)
-      → firstOf rest (entryTable ours earlier part) ≡ faultOf (namedIn earlier (processorIn part)) part
+  bad-entry : (processorIn part ≡ 0 → ⊥) → (faultOf b (namedIn earlier (processorIn part)) part ≡ Accepted → ⊥)
+      → firstOf rest (entryTable b earlier part) ≡ faultOf b (namedIn earlier (processorIn part)) part
   unfolding faultOf firstOf threeOf
   bad-entry some bad =
       used-entry some
-      ∙ three-bad (not (onBoard ours (processorIn part))) (namedIn earlier (processorIn part))
-      (not (activeHost ours (masterIn part))) _ bad
+      ∙ three-bad (not (onBoard b (processorIn part))) (namedIn earlier (processorIn part))
+      (not (activeHost b (masterIn part))) _ bad
 
-  good-entry : (processorIn part ≡ 0 → ⊥) → faultOf (namedIn earlier (processorIn part)) part ≡ Accepted
-      → firstOf rest (entryTable ours earlier part) ≡ cond (anyOf (badSecondary ours) (secondariesIn part)) A8 rest
+  good-entry : (processorIn part ≡ 0 → ⊥) → faultOf b (namedIn earlier (processorIn part)) part ≡ Accepted
+      → firstOf rest (entryTable b earlier part) ≡ cond (anyOf (badSecondary b) (secondariesIn part)) A8 rest
   unfolding faultOf firstOf threeOf
   good-entry some good =
       used-entry some
-      ∙ three-good (not (onBoard ours (processorIn part))) (namedIn earlier (processorIn part))
-      (not (activeHost ours (masterIn part))) _ good
+      ∙ three-good (not (onBoard b (processorIn part))) (namedIn earlier (processorIn part))
+      (not (activeHost b (masterIn part))) _ good
 
 -- ---- A8: the secondaries in turn
 
 -- the secondary at k comes before those after it
-bad-next : (part : List ℕ) (k : ℕ) → k < 3 → badFrom part k ≡ (badSecondary ours (u16At part (3 + 2 * k)) || badFrom part (k + 1))
+bad-next : (b : Board) (part : List ℕ) (k : ℕ) → k < 3 → badFrom b part k ≡ (badSecondary b (u16At part (3 + 2 * k)) || badFrom b part (k + 1))
 unfolding badFrom anyOf
-bad-next part zero h = refl
-bad-next part (suc zero) h = refl
-bad-next part (suc (suc zero)) h = refl
-bad-next part (suc (suc (suc k))) h = absurd (omega arith)
+bad-next b part zero h = refl
+bad-next b part (suc zero) h = refl
+bad-next b part (suc (suc zero)) h = refl
+bad-next b part (suc (suc (suc k))) h = absurd (omega arith)
 
 -- what the code's test says of a secondary s, read as h
-host-test : {h s : ℕ} {r b : Bool} → r ≡ boardHost ours h → h ≡ s → not r ≡ b → badSecondary ours s ≡ b
-host-test is same told = ap not (sym (ap (boardHost ours) same) ∙ sym is) ∙ told
+host-test : (b : Board) {h s : ℕ} {r t : Bool} → r ≡ boardHost b h → h ≡ s → not r ≡ t → badSecondary b s ≡ t
+host-test b is same told = ap not (sym (ap (boardHost b) same) ∙ sym is) ∙ told
 
 -- a turn of the loop: what it has read is the secondary and whether that is a board host
-module _ (part : List ℕ) (k : ℕ) {h : ℕ} {r : Bool} (inside : k < 3) (is : r ≡ boardHost ours h) (same : h ≡ u16At part (3 + 2 * k))
+module _ (b : Board) (part : List ℕ) (k : ℕ) {h : ℕ} {r : Bool} (inside : k < 3) (is : r ≡ boardHost b h) (same : h ≡ u16At part (3 + 2 * k))
   where
-    pub secondary-bad : not r ≡ true → badFrom part k ≡ true
-    secondary-bad told = bad-next part k inside ∙ rw (host-test is same told)
+    pub secondary-bad : not r ≡ true → badFrom b part k ≡ true
+    secondary-bad told = bad-next b part k inside ∙ rw (host-test b is same told)
 
-    pub secondary-good : not r ≡ false → badFrom part k ≡ badFrom part (k + 1)
-    secondary-good told = bad-next part k inside ∙ rw (host-test is same told)
+    pub secondary-good : not r ≡ false → badFrom b part k ≡ badFrom b part (k + 1)
+    secondary-good told = bad-next b part k inside ∙ rw (host-test b is same told)
 
-pub secondaries-good : (part : List ℕ) (k : ℕ) → k ≡ 3 → badFrom part k ≡ false
+pub secondaries-good : (b : Board) (part : List ℕ) (k : ℕ) → k ≡ 3 → badFrom b part k ≡ false
 unfolding badFrom anyOf
-secondaries-good part k all = rw all
+secondaries-good b part k all = rw all
 
 -- ---- the entries in turn
 
 -- what the entries from e on come to is what entry e comes to before those from e + 1 on
-from-entry : (list : List ℕ) (e : ℕ) → e < 32
-    → verdictFrom list e ≡ firstOf (verdictFrom list (e + 1)) (entryTable ours (partsBefore list e) (partAt list e))
+from-entry : (b : Board) (list : List ℕ) (e : ℕ) → e < 32
+    → verdictFrom b list e ≡ firstOf (verdictFrom b list (e + 1)) (entryTable b (partsBefore list e) (partAt list e))
 unfolding verdictFrom partsBefore partsFrom entriesTable
-from-entry list e h =
+from-entry b list e h =
     let left : 32 - e ≡ suc (32 - (e + 1)) = omega arith in
-    ap (λ (n : ℕ). firstOf Accepted (entriesTable ours (partsBefore list e) (partsFrom list e n))) left
-    ∙ firstOf-append Accepted (entryTable ours (partsBefore list e) (partAt list e))
-    (entriesTable ours (partAt list e ∷ partsBefore list e) (partsFrom list (suc e) (32 - (e + 1))))
-    ∙ ap (λ (n : ℕ). firstOf (firstOf Accepted (entriesTable ours (partsBefore list n) (partsFrom list n (32 - (e + 1)))))
-    (entryTable ours (partsBefore list e) (partAt list e)))
+    ap (λ (n : ℕ). firstOf Accepted (entriesTable b (partsBefore list e) (partsFrom list e n))) left
+    ∙ firstOf-append Accepted (entryTable b (partsBefore list e) (partAt list e))
+    (entriesTable b (partAt list e ∷ partsBefore list e) (partsFrom list (suc e) (32 - (e + 1))))
+    ∙ ap (λ (n : ℕ). firstOf (firstOf Accepted (entriesTable b (partsBefore list n) (partsFrom list n (32 - (e + 1)))))
+    (entryTable b (partsBefore list e) (partAt list e)))
     (sym (add-one e))
 
 -- a turn of the loop: what it has read is the entry's part and its processor
-module _ (list : List ℕ) (e : ℕ) {part : List ℕ} {p : ℕ} (h : e < 32) (is : part ≡ partAt list e) (at : p ≡ processorIn part) where
-  pub turn-unused : p ≡ 0 → verdictFrom list e ≡ verdictFrom list (e + 1)
+module _ (b : Board) (list : List ℕ) (e : ℕ) {part : List ℕ} {p : ℕ} (h : e < 32) (is : part ≡ partAt list e) (at : p ≡ processorIn part) where
+  pub turn-unused : p ≡ 0 → verdictFrom b list e ≡ verdictFrom b list (e + 1)
   turn-unused none =
-      from-entry list e h
-      ∙ unused-entry (verdictFrom list (e + 1)) (partsBefore list e) (partAt list e)
+      from-entry b list e h
+      ∙ unused-entry b (verdictFrom b list (e + 1)) (partsBefore list e) (partAt list e)
       (sym (ap (λ (l : List ℕ). processorIn l) is) ∙ sym at ∙ none)
 
   -- of a used entry also whether an earlier one names its processor, and A5 to A7
   module _ {fault : Verdict} {named : Bool} (some : p ≡ 0 → ⊥) (before : named ≡ writtenIn (partsBefore list e) p)
-      (judged : fault ≡ faultOf named part) where
+      (judged : fault ≡ faultOf b named part) where
     asked : named ≡ namedIn (partsBefore list e) p
     asked = before ∙ written-named (partsBefore list e) p some
 
     names-one : processorIn (partAt list e) ≡ 0 → ⊥
     names-one none = some (at ∙ ap (λ (l : List ℕ). processorIn l) is ∙ none)
 
-    whole : faultOf (namedIn (partsBefore list e) (processorIn (partAt list e))) (partAt list e) ≡ fault
+    whole : faultOf b (namedIn (partsBefore list e) (processorIn (partAt list e))) (partAt list e) ≡ fault
     whole = let named-is = asked in cc
 
-    pub turn-bad : (fault ≡ Accepted → ⊥) → verdictFrom list e ≡ fault
+    pub turn-bad : (fault ≡ Accepted → ⊥) → verdictFrom b list e ≡ fault
     turn-bad bad =
-        from-entry list e h
-        ∙ bad-entry (verdictFrom list (e + 1)) (partsBefore list e) (partAt list e) names-one (λ good. bad (sym whole ∙ good))
+        from-entry b list e h
+        ∙ bad-entry b (verdictFrom b list (e + 1)) (partsBefore list e) (partAt list e) names-one (λ good. bad (sym whole ∙ good))
         ∙ whole
 
-    pub turn-good : fault ≡ Accepted → verdictFrom list e ≡ cond (badFrom part 0) A8 (verdictFrom list (e + 1))
+    pub turn-good : fault ≡ Accepted → verdictFrom b list e ≡ cond (badFrom b part 0) A8 (verdictFrom b list (e + 1))
     unfolding badFrom
     turn-good good =
-        from-entry list e h
-        ∙ good-entry (verdictFrom list (e + 1)) (partsBefore list e) (partAt list e) names-one (whole ∙ good)
-        ∙ ap (λ (l : List ℕ). cond (badFrom l 0) A8 (verdictFrom list (e + 1))) (sym is)
+        from-entry b list e h
+        ∙ good-entry b (verdictFrom b list (e + 1)) (partsBefore list e) (partAt list e) names-one (whole ∙ good)
+        ∙ ap (λ (l : List ℕ). cond (badFrom b l 0) A8 (verdictFrom b list (e + 1))) (sym is)
 
 -- ---- accepted or not
-
-no-zero : (ks : List ℕ) → OneOf (map suc ks) 0 → ⊥
-no-zero [] h = h
-no-zero (k ∷ []) h = omega arith
-no-zero (k ∷ l ∷ ks) h = ⊎-elim (λ e. omega (arith, e)) (λ later. no-zero (l ∷ ks) later) h
-
--- the number of `Accepted` is none of the faults' numbers
-pub no-fault : OneOf (1 ∷ 2 ∷ 3 ∷ 4 ∷ 5 ∷ 6 ∷ 7 ∷ 8 ∷ []) 0 → ⊥
-no-fault h = no-zero (0 ∷ 1 ∷ 2 ∷ 3 ∷ 4 ∷ 5 ∷ 6 ∷ 7 ∷ []) h
 
 -- a list of another length comes to A1 or A2
 neither : (listed : Bool) → cond listed A1 A2 ≡ Accepted → ⊥
 neither true same = let z : _≡_ {A = ℕ} 0 1 = cc in omega arith
 neither false same = let z : _≡_ {A = ℕ} 0 1 = cc in omega arith
 
-pub accepted-length : {v : Verdict} (listed : Bool) (list : List ℕ) → v ≡ verdictOf ours listed list → v ≡ Accepted → length list ≡ 292
+pub accepted-length : (b : Board) {v : Verdict} (listed : Bool) (list : List ℕ) → v ≡ verdictOf b listed list → v ≡ Accepted → length list ≡ 292
 unfolding verdictOf listTable firstOf
-accepted-length listed list told good =
+accepted-length b listed list told good =
     ⊎-elim (λ t. eqb-true (length list) 292 t)
     (λ f. absurd (neither listed (rw f at (sym told ∙ good))))
     (decide (eqb (length list) 292))
-
-pub not-accepted : (v : Verdict) → (v ≡ Accepted → ⊥) → accepted v ≡ false
-unfolding accepted
-not-accepted Accepted bad = absurd (bad refl)
-not-accepted A1 bad = refl
-not-accepted A2 bad = refl
-not-accepted A3 bad = refl
-not-accepted A4 bad = refl
-not-accepted A5 bad = refl
-not-accepted A6 bad = refl
-not-accepted A7 bad = refl
-not-accepted A8 bad = refl

@@ -7,14 +7,14 @@ use lib.ListN.{drop}
 use Rattle.rules.specs.declared.Verdict.{Verdict}
 use Rattle.rules.specs.declared.Verdict.the-variants.{Accepted}
 use Rattle.rules.specs.Table.{firstOf, anyOf}
-use Rattle.rules.specs.Board.{ours}
+use Rattle.rules.specs.Board.{Board}
 use Rattle.rules.specs.AccessList.{partsFrom, secondariesIn, badSecondary, entriesTable}
 use Rattle.entries.specs.Entries.{partsBefore}
 
 -- some secondary from k on is neither 0 nor a board host
-unfoldable pub badFrom : List ℕ → ℕ → Bool
-badFrom part k = anyOf (badSecondary ours) (drop k (secondariesIn part))
+unfoldable pub badFrom : Board → List ℕ → ℕ → Bool
+badFrom b part k = anyOf (badSecondary b) (drop k (secondariesIn part))
 
 -- what the entries from e on come to
-unfoldable pub verdictFrom : List ℕ → ℕ → Verdict
-verdictFrom list e = firstOf Accepted (entriesTable ours (partsBefore list e) (partsFrom list e (32 - e)))
+unfoldable pub verdictFrom : Board → List ℕ → ℕ → Verdict
+verdictFrom b list e = firstOf Accepted (entriesTable b (partsBefore list e) (partsFrom list e (32 - e)))

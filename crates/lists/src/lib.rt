@@ -1,7 +1,7 @@
 // Why an access list is refused: document 01's A1 to A8, in its order. An entry is judged as its own
 // nine-byte part of the list, A5 to A7 by crate entries.
 ghost use mathlib.Core.Path.{_≡_};
-ghost use Rattle.rules.specs.Board.{ours};
+ghost use Rattle.board.specs.Memory.{boardIn};
 ghost use Rattle.rules.specs.AccessList.{verdictOf};
 use board::is_host;
 use entries::check_entry;
@@ -12,8 +12,8 @@ use wire::u16_at;
 
 // What a list comes to, where `listed` says whether one was accepted before. The first fault is
 // reported: the search stops at the first bad secondary of the first bad entry.
-pub fn judge(listed: bool, list: &[u8]) -> Verdict
-    ensures { λ r. ⌜ r ≡ verdictOf ours listed (now (list .entry)) ⌝ }
+pub fn judge(board: &[u8; 576], listed: bool, list: &[u8]) -> Verdict
+    ensures { λ r. ⌜ r ≡ verdictOf (boardIn (now (board .entry))) listed (now (list .entry)) ⌝ }
 {
     if listed {
         return Verdict::A1;
@@ -38,13 +38,13 @@ pub fn judge(listed: bool, list: &[u8]) -> Verdict
             e += 1;
             continue 'entries;
         }
-        match check_entry(part, named_before(list, e as u8, processor)) {
+        match check_entry(board, part, named_before(list, e as u8, processor)) {
             Verdict::Accepted => {}
             fault => break 'entries fault,
         }
         let mut k: u8 = 0;
         while k < 3 {
-            if !is_host(u16_at(part, 3 + 2 * k)) {
+            if !is_host(board, u16_at(part, 3 + 2 * k)) {
                 break 'entries Verdict::A8;
             }
             k += 1;

@@ -10,15 +10,18 @@ use mathlib.Core.List.{List, [], _∷_, _++_}
 use mathlib.Core.Logic.{⊎-elim}
 use lib.ListN.{length, set, drop, replicate}
 use lib.Seq.{sets, set-out}
-use borrow.Author.Tests.{ltb-true, ltb-false, eqb-true, not-false}
+use lib.Dec.{eqb, ltb}
+use borrow.Author.Tests.{eq-eqb, ne-eqb, lt-ltb, le-ltb, ltb-true, ltb-false}
 use Rattle.rules.specs.declared.Verdict.{Verdict}
 use Rattle.rules.specs.declared.Verdict.the-variants.{Accepted}
-use Rattle.rules.specs.Table.{placeOf}
-use Rattle.rules.specs.Board.{ours, rows, rowOf, onBoard}
-use Rattle.rules.specs.AccessList.{Entry, noEntry, partAt, partsFrom, processorIn, masterIn, secondariesIn, used, entryIn, withPart, withParts, noEntries, entriesOf, verdictOf, accepted}
-use Rattle.rules.proofs.Tests.{decide, clash, cond-true, cond-false}
-use Rattle.lists.proofs.Verdicts.{not-accepted}
-use Rattle.access.specs.Memory.{byRow, listedIn, entryPlace, entryAt, entriesIn}
+use Rattle.rules.specs.Table.{tableOf}
+use Rattle.rules.specs.Bytes.{u16At}
+use Rattle.rules.specs.Board.{Board, rows, rowOf, onBoard}
+use Rattle.rules.specs.Verdict.{accepted}
+use Rattle.rules.specs.AccessList.{Entry, noEntry, partAt, partsFrom, processorIn, masterIn, secondariesIn, used, entryIn, withPart, withParts, noEntries, entriesOf, verdictOf}
+use Rattle.rules.proofs.Tests.{decide, cond-true, cond-false}
+use Rattle.rules.proofs.Verdicts.{not-accepted}
+use Rattle.access.specs.Memory.{listedIn, entryPlace, entryAt, entriesIn}
 use Rattle.loading.specs.Loaded.{wordsOf, accessAfter, putEntry, entriesBefore}
 
 -- n entries of four words each
@@ -52,115 +55,125 @@ rows-set none i a b c d = none
 rows-set (row r) zero a b c d = row r
 rows-set (row r) (suc i) a b c d = row (rows-set r i a b c d)
 
-rows-part : {n : ℕ} {es : List Entry} (part : List ℕ) → Rows n es → Rows n (withPart ours part es)
+rows-part : {n : ℕ} {es : List Entry} (b : Board) (part : List ℕ) → Rows n es → Rows n (withPart b part es)
 unfolding withPart entryIn
-rows-part {n} {es} part r =
-    ⊎-elim (λ u. rw u (rows-set r (rowOf ours (processorIn part)) (masterIn part) _ _ _)) (λ u. rw u r) (decide (used part))
+rows-part {n} {es} b part r =
+    ⊎-elim (λ u. rw u (rows-set r (rowOf b (processorIn part)) (masterIn part) _ _ _)) (λ u. rw u r) (decide (used part))
 
--- processor 0 is not on the board
-zero-off : (p : ℕ) → p ≡ 0 → onBoard ours p ≡ false
-unfolding onBoard rows rowOf placeOf ours
-zero-off p unused = rw unused
-
--- a processor on the board has one of the four rows
-on-row : (p : ℕ) → onBoard ours p ≡ true → rowOf ours p < 4
-unfolding onBoard rows ours
-on-row p on = ltb-true (rowOf ours p) 4 on
-
--- an entry off the board is stored nowhere
-off-kept : {es : List Entry} (part : List ℕ) → Rows 4 es → onBoard ours (processorIn part) ≡ false → withPart ours part es ≡ es
-unfolding withPart onBoard rows ours
-off-kept {es} part r off =
-    let past : 4 ≤ rowOf ours (processorIn part) = ltb-false (rowOf ours (processorIn part)) 4 off in
-    let out = set-out es (rowOf ours (processorIn part)) (entryIn part) (omega (arith, rows-length r)) in
-    ⊎-elim (λ u. rw u out) (λ u. rw u) (decide (used part))
-
--- an entry on the board is stored at its row
-on-stored : (es : List Entry) (part : List ℕ) → onBoard ours (processorIn part) ≡ true
-    → withPart ours part es ≡ set es (rowOf ours (processorIn part)) (entryIn part)
-unfolding withPart
-on-stored es part on =
-    ⊎-elim (λ u. rw u)
-    (λ u. clash on (zero-off (processorIn part) (eqb-true (processorIn part) 0 (not-false _ u))))
+-- an entry that is unused, or off the board, is stored nowhere, and any other at its row
+put-entry : {es : List Entry} (b : Board) (part : List ℕ) → Rows rows es → putEntry b part (1 ∷ wordsOf es) ≡ 1 ∷ wordsOf (withPart b part es)
+unfolding putEntry withPart onBoard entryIn
+put-entry {es} b part r =
+    let i = rowOf b (processorIn part) in
+    ⊎-elim
+    (λ (u : used part ≡ true).
+    ⊎-elim
+    (λ (on : ltb i rows ≡ true).
+    rw (u, on)
+    (ap (λ (k : ℕ). sets (1 ∷ wordsOf es) k (masterIn part ∷ secondariesIn part)) (one-add (4 * i))
+    ∙ ap (λ (l : List ℕ). 1 ∷ l) (put-words r i (masterIn part) _ _ _ (ltb-true i rows on))))
+    (λ (off : ltb i rows ≡ false).
+    let past = ltb-false i rows off in
+    rw (u, off)
+    (ap (λ (l : List Entry). 1 ∷ wordsOf l) (sym (set-out es i _ (omega (arith, rows-length r))))))
+    (decide (ltb i rows)))
+    (λ (u : used part ≡ false). rw u)
     (decide (used part))
 
-put-entry : {es : List Entry} (part : List ℕ) → Rows 4 es → putEntry part (1 ∷ wordsOf es) ≡ 1 ∷ wordsOf (withPart ours part es)
-unfolding putEntry entryIn
-put-entry {es} part r =
-    let i = rowOf ours (processorIn part) in
-    ⊎-elim
-    (λ on.
-    cond-true _ _ on
-    ∙ ap (λ (k : ℕ). sets (1 ∷ wordsOf es) k (masterIn part ∷ secondariesIn part)) (one-add (4 * i))
-    ∙ ap (λ (l : List ℕ). 1 ∷ l) (put-words r i (masterIn part) _ _ _ (on-row (processorIn part) on))
-    ∙ ap (λ (l : List Entry). 1 ∷ wordsOf l) (sym (on-stored es part on)))
-    (λ off. cond-false _ _ off ∙ ap (λ (l : List Entry). 1 ∷ wordsOf l) (sym (off-kept part r off)))
-    (decide (onBoard ours (processorIn part)))
-
 -- the code's four stores, of what it has read
-pub four-stores : (m : List ℕ) {i j a b c d w x y z : ℕ} → i ≡ j → a ≡ w → b ≡ x → c ≡ y → d ≡ z
+four-stores : (m : List ℕ) {i j a b c d w x y z : ℕ} → i ≡ j → a ≡ w → b ≡ x → c ≡ y → d ≡ z
     → set (set (set (set m (1 + 4 * i) a) (1 + 4 * i + 1) b) (1 + 4 * i + 2) c) (1 + 4 * i + 3) d
     ≡ sets m (entryPlace j) (w ∷ x ∷ y ∷ z ∷ [])
 four-stores m at first second third fourth = rw (at, first, second, third, fourth) (simp towards-suc)
 
+-- what the code does with an entry whose processor it has read as p: an unused one is stored nowhere
+module _ (b : Board) (part m : List ℕ) {p : ℕ} (at : p ≡ processorIn part) where
+  pub put-unused : p ≡ 0 → m ≡ putEntry b part m
+  unfolding putEntry
+  put-unused unused = rw (eq-eqb (processorIn part) 0 (sym at ∙ unused))
+
+  -- a used one by the row that it has found
+  module _ {row : ℕ} (some : p ≡ 0 → ⊥) (here : row ≡ rowOf b p) where
+    names : eqb (processorIn part) 0 ≡ false
+    names = ne-eqb (processorIn part) 0 (λ e. some (at ∙ e))
+
+    row-is : row ≡ rowOf b (processorIn part)
+    row-is = here ∙ ap (rowOf b) at
+
+    pub put-off : rows ≤ row → m ≡ putEntry b part m
+    unfolding putEntry onBoard
+    put-off past = rw (names, le-ltb (rowOf b (processorIn part)) rows (subst (λ (n : ℕ). rows ≤ n) row-is past))
+
+    pub put-on : row < rows → {w x y z : ℕ} → w ≡ masterIn part → x ≡ u16At part 3 → y ≡ u16At part 5 → z ≡ u16At part 7
+        → set (set (set (set m (1 + 4 * row) w) (1 + 4 * row + 1) x) (1 + 4 * row + 2) y) (1 + 4 * row + 3) z ≡ putEntry b part m
+    unfolding putEntry onBoard
+    put-on inside first second third fourth =
+        rw (names, lt-ltb (rowOf b (processorIn part)) rows (subst (λ (n : ℕ). n < rows) row-is inside))
+        (four-stores m row-is first second third fourth)
+
 -- ---- all parts
 
-rows-before : (list : List ℕ) (e : ℕ) → Rows 4 (entriesBefore list e)
-unfolding entriesBefore noEntries noEntry rows ours
-rows-before list zero = row (row (row (row none)))
-rows-before list (suc e) = rows-part (partAt list e) (rows-before list e)
+rows-none : (n : ℕ) → Rows n (replicate n noEntry)
+unfolding noEntry
+rows-none zero = none
+rows-none (suc n) = row (rows-none n)
 
-from-before : (list : List ℕ) (e n : ℕ) → withParts ours (partsFrom list e n) (entriesBefore list e) ≡ entriesBefore list (e + n)
+rows-before : (b : Board) (list : List ℕ) (e : ℕ) → Rows rows (entriesBefore b list e)
+unfolding entriesBefore noEntries
+rows-before b list zero = rows-none rows
+rows-before b list (suc e) = rows-part b (partAt list e) (rows-before b list e)
+
+from-before : (b : Board) (list : List ℕ) (e n : ℕ) → withParts b (partsFrom list e n) (entriesBefore b list e) ≡ entriesBefore b list (e + n)
 unfolding entriesBefore withParts partsFrom
-from-before list e zero = ap (entriesBefore list) (sym (add-zero e))
-from-before list e (suc n) =
-    let more : suc e + n ≡ e + suc n = omega arith in from-before list (suc e) n ∙ ap (entriesBefore list) more
+from-before b list e zero = ap (entriesBefore b list) (sym (add-zero e))
+from-before b list e (suc n) =
+    let more : suc e + n ≡ e + suc n = omega arith in from-before b list (suc e) n ∙ ap (entriesBefore b list) more
 
-pub entries-all : (list : List ℕ) → entriesBefore list 32 ≡ entriesOf ours list
+pub entries-all : (b : Board) (list : List ℕ) → entriesBefore b list 32 ≡ entriesOf b list
 unfolding entriesOf entriesBefore
-entries-all list = sym (from-before list 0 32)
+entries-all b list = sym (from-before b list 0 32)
 
-rows-of : (list : List ℕ) → Rows 4 (entriesOf ours list)
-rows-of list = subst (λ (es : List Entry). Rows 4 es) (entries-all list) (rows-before list 32)
+rows-of : (b : Board) (list : List ℕ) → Rows rows (entriesOf b list)
+rows-of b list = subst (λ (es : List Entry). Rows rows es) (entries-all b list) (rows-before b list 32)
 
 -- zeros and the mark are the words of no entries
-pub load-first : {m : List ℕ} {n : ℕ} (list : List ℕ) → m ≡ replicate n 0 → n ≡ 17 → set m 0 1 ≡ 1 ∷ wordsOf (entriesBefore list 0)
-unfolding wordsOf entriesBefore noEntries noEntry rows ours
-load-first list zeros whole = rw (zeros, whole)
+pub load-first : {m : List ℕ} {n : ℕ} (b : Board) (list : List ℕ) → m ≡ replicate n 0 → n ≡ 129 → set m 0 1 ≡ 1 ∷ wordsOf (entriesBefore b list 0)
+unfolding wordsOf entriesBefore noEntries noEntry
+load-first b list zeros whole = rw (zeros, whole)
 
 -- a turn of the store: the words of one more part
-pub put-next : (list : List ℕ) (e : ℕ)
-    → putEntry (partAt list e) (1 ∷ wordsOf (entriesBefore list e)) ≡ 1 ∷ wordsOf (entriesBefore list (e + 1))
+pub put-next : (b : Board) (list : List ℕ) (e : ℕ)
+    → putEntry b (partAt list e) (1 ∷ wordsOf (entriesBefore b list e)) ≡ 1 ∷ wordsOf (entriesBefore b list (e + 1))
 unfolding entriesBefore
-put-next list e =
-    put-entry (partAt list e) (rows-before list e)
-    ∙ ap (λ (n : ℕ). 1 ∷ wordsOf (entriesBefore list n)) (sym (add-one e))
+put-next b list e =
+    put-entry b (partAt list e) (rows-before b list e)
+    ∙ ap (λ (n : ℕ). 1 ∷ wordsOf (entriesBefore b list n)) (sym (add-one e))
 
 -- ---- read
 
 -- one row on
-byRow-next : {A : Type 0} (f g : ℕ → A) → ((i : ℕ) → f (suc i) ≡ g i) → (i n : ℕ) → byRow f (suc i) n ≡ byRow g i n
-unfolding byRow
-byRow-next f g same i zero = refl
-byRow-next f g same i (suc n) = rw (same i, byRow-next f g same (suc i) n)
+table-next : {A : Type 0} (f g : ℕ → A) → ((i : ℕ) → f (suc i) ≡ g i) → (i n : ℕ) → tableOf f (suc i) n ≡ tableOf g i n
+unfolding tableOf
+table-next f g same i zero = refl
+table-next f g same i (suc n) = rw (same i, table-next f g same (suc i) n)
 
 -- behind an entry's words the rows are those of the words left
 entry-next : (v a b c d : ℕ) (m : List ℕ) (i : ℕ) → entryAt (v ∷ a ∷ b ∷ c ∷ d ∷ m) (suc i) ≡ entryAt (v ∷ m) i
 unfolding entryAt
 entry-next v a b c d m i = simp (four-more, one-add, towards-suc)
 
-read-words : {n : ℕ} {es : List Entry} (v : ℕ) → Rows n es → byRow (entryAt (v ∷ wordsOf es)) 0 n ≡ es
-unfolding byRow wordsOf entryAt
+read-words : {n : ℕ} {es : List Entry} (v : ℕ) → Rows n es → tableOf (entryAt (v ∷ wordsOf es)) 0 n ≡ es
+unfolding tableOf wordsOf entryAt
 read-words v none = refl
 read-words v (row {n = n} {a = a} {b = b} {c = c} {d = d} {es = es} r) =
     ap (λ (l : List Entry). record { master = a; first = b; second = c; third = d } ∷ l)
-    (byRow-next (entryAt (v ∷ a ∷ b ∷ c ∷ d ∷ wordsOf es)) (entryAt (v ∷ wordsOf es)) (entry-next v a b c d (wordsOf es)) 0 n
+    (table-next (entryAt (v ∷ a ∷ b ∷ c ∷ d ∷ wordsOf es)) (entryAt (v ∷ wordsOf es)) (entry-next v a b c d (wordsOf es)) 0 n
     ∙ read-words v r)
 
 -- the memory that an accepted list leaves says its entries
-pub words-read : (list : List ℕ) → entriesIn (1 ∷ wordsOf (entriesOf ours list)) ≡ entriesOf ours list
-unfolding entriesIn rows ours
-words-read list = read-words 1 (rows-of list)
+pub words-read : (b : Board) (list : List ℕ) → entriesIn (1 ∷ wordsOf (entriesOf b list)) ≡ entriesOf b list
+unfolding entriesIn
+words-read b list = read-words 1 (rows-of b list)
 
 -- ---- cleared
 
@@ -180,17 +193,17 @@ clear-all (x ∷ m) = ap (λ (l : List ℕ). 0 ∷ l) (clear-all m)
 -- ---- the list call
 
 -- what the code has read is whether a list was accepted before, and the verdict
-module _ (m list : List ℕ) {v : Verdict} {b : Bool} (judged : v ≡ verdictOf ours b list) (asked : b ≡ listedIn m) where
-  told : v ≡ verdictOf ours (listedIn m) list
-  told = judged ∙ ap (λ (x : Bool). verdictOf ours x list) asked
+module _ (b : Board) (m list : List ℕ) {v : Verdict} {x : Bool} (judged : v ≡ verdictOf b x list) (asked : x ≡ listedIn m) where
+  told : v ≡ verdictOf b (listedIn m) list
+  told = judged ∙ ap (λ (y : Bool). verdictOf b y list) asked
 
   -- a refused list leaves the memory
-  pub refused : (v ≡ Accepted → ⊥) → (v ≡ verdictOf ours (listedIn m) list) × (m ≡ accessAfter m list)
+  pub refused : (v ≡ Accepted → ⊥) → (v ≡ verdictOf b (listedIn m) list) × (m ≡ accessAfter b m list)
   unfolding accessAfter
   refused bad = (told, sym (cond-false _ _ (ap accepted (sym told) ∙ not-accepted v bad)))
 
   -- an accepted one puts its entries there
   pub taken : v ≡ Accepted
-      → (Accepted ≡ verdictOf ours (listedIn m) list) × (1 ∷ wordsOf (entriesOf ours list) ≡ accessAfter m list)
+      → (Accepted ≡ verdictOf b (listedIn m) list) × (1 ∷ wordsOf (entriesOf b list) ≡ accessAfter b m list)
   unfolding accessAfter accepted
   taken good = (sym good ∙ told, sym (cond-true _ _ (ap accepted (sym told ∙ good))))

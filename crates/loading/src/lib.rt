@@ -3,8 +3,8 @@
 ghost use mathlib.Core.Path.{_≡_};
 ghost use mathlib.Core.List.{_∷_};
 ghost use lib.ListN.{length, replicate};
-ghost use Rattle.rules.specs.Board.{ours};
 ghost use Rattle.rules.specs.AccessList.{entriesOf, verdictOf};
+ghost use Rattle.board.specs.Memory.{boardIn};
 ghost use Rattle.access.specs.Memory.{listedIn};
 ghost use Rattle.loading.specs.Loaded.{wordsOf, accessAfter, putEntry};
 use access::is_listed;
@@ -26,12 +26,16 @@ fn clear(memory: &mut [u16])
     }
 }
 
-// Puts an entry's four words at its processor's row. An unused entry's processor 0 has no row.
-fn store_entry(memory: &mut [u16], part: &[u8])
-    requires { ⌜ length (now memory) ≡ 17 ⌝ }
-    ensures { λ _. ⌜ now (memory .exit) ≡ putEntry (now (part .entry)) (now (memory .entry)) ⌝ }
+// Puts a used entry's four words at its processor's row. An unused one is stored nowhere.
+fn store_entry(board: &[u8; 576], memory: &mut [u16], part: &[u8])
+    requires { ⌜ length (now memory) ≡ 129 ⌝ }
+    ensures { λ _. ⌜ now (memory .exit) ≡ putEntry (boardIn (now (board .entry))) (now (part .entry)) (now (memory .entry)) ⌝ }
 {
-    let row = row_of(byte_at(part, 0));
+    let processor = byte_at(part, 0);
+    if processor == 0 {
+        return;
+    }
+    let row = row_of(board, processor);
     if row >= ROWS {
         return;
     }
@@ -43,31 +47,31 @@ fn store_entry(memory: &mut [u16], part: &[u8])
 }
 
 // Puts 1 and the entries of a list of the right length into the memory, whatever it held.
-fn load(memory: &mut [u16], list: &[u8])
-    requires { ⌜ length (now memory) ≡ 17 ⌝ }
+fn load(board: &[u8; 576], memory: &mut [u16], list: &[u8])
+    requires { ⌜ length (now memory) ≡ 129 ⌝ }
     requires { ⌜ length (now list) ≡ 292 ⌝ }
-    ensures { λ _. ⌜ now (memory .exit) ≡ 1 ∷ wordsOf (entriesOf ours (now (list .entry))) ⌝ }
+    ensures { λ _. ⌜ now (memory .exit) ≡ 1 ∷ wordsOf (entriesOf (boardIn (now (board .entry))) (now (list .entry))) ⌝ }
 {
     clear(memory);
     memory[0] = 1;
     let mut e: usize = 0;
     while e < 32 {
-        store_entry(memory, &list[4 + 9 * e..4 + 9 * e + 9]);
+        store_entry(board, memory, &list[4 + 9 * e..4 + 9 * e + 9]);
         e += 1;
     }
 }
 
 // The list call: judges first, and on a refusal writes nothing. Memory of zeros is that of a manager
 // with no list.
-pub fn offer_list(access: &mut [u16; 17], list: &[u8]) -> Verdict
-    ensures verdict { λ r. ⌜ r ≡ verdictOf ours (listedIn (now (access .entry))) (now (list .entry)) ⌝ }
-    ensures memory { λ _. ⌜ now (access .exit) ≡ accessAfter (now (access .entry)) (now (list .entry)) ⌝ }
+pub fn offer_list(board: &[u8; 576], access: &mut [u16; 129], list: &[u8]) -> Verdict
+    ensures verdict { λ r. ⌜ r ≡ verdictOf (boardIn (now (board .entry))) (listedIn (now (access .entry))) (now (list .entry)) ⌝ }
+    ensures memory { λ _. ⌜ now (access .exit) ≡ accessAfter (boardIn (now (board .entry))) (now (access .entry)) (now (list .entry)) ⌝ }
 {
     let memory = &mut access[..];
-    match judge(is_listed(memory), list) {
+    match judge(board, is_listed(memory), list) {
         Verdict::Accepted => {}
         fault => return fault,
     }
-    load(memory, list);
+    load(board, memory, list);
     Verdict::Accepted
 }

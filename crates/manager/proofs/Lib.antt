@@ -1,3 +1,3 @@
 -- What the proofs of this crate share.
 pub mod Tables
-pub mod TwoCalls
+pub mod EachCall

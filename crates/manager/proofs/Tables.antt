@@ -10,6 +10,7 @@ use Rattle.rules.specs.declared.Kind.the-variants.{WaitStatus}
 use Rattle.rules.specs.declared.Outcome.{Outcome}
 use Rattle.rules.specs.declared.Outcome.the-variants.{R1, R2, N1, N2, Ok}
 use Rattle.rules.specs.Table.{_gives_, firstOf}
+use Rattle.rules.specs.Board.{Board}
 use Rattle.rules.specs.Message.{Query, query, isKind, kindIn, subjectOf}
 use Rattle.rules.specs.Outcome.{View, senderWrong, admission, outcomeTable, outcomeOf, outcomeNumber, carriedOut}
 use Rattle.rules.specs.Answer.{waited}
@@ -26,11 +27,11 @@ use Rattle.manager.specs.Decision.{Decides}
 -- ---- the rows up to the sender
 
 -- the whole table is these rows before those from the type on
-whole-table : (access memory : List ℕ) (q : Query)
-    → outcomeOf (viewIn access memory (rowIn q)) q
-    ≡ firstOf (firstOf Ok (kindTable (viewIn access memory (rowIn q)) q (kindIn (q .message)))) (senderTable (listedIn access) q)
+whole-table : (b : Board) (access memory : List ℕ) (q : Query)
+    → outcomeOf (viewIn b access memory (rowIn b q)) q
+    ≡ firstOf (firstOf Ok (kindTable (viewIn b access memory (rowIn b q)) q (kindIn (q .message)))) (senderTable b (listedIn access) q)
 unfolding outcomeOf outcomeTable admission viewIn kindTable typeTable senderTable firstOf
-whole-table access memory q = refl
+whole-table b access memory q = refl
 
 -- four rows of any tests: passed, or not
 four-passed : (a b c d : Bool) (below : Outcome) → firstOf Ok ((a gives R1) ∷ (b gives R2) ∷ (c gives N1) ∷ (d gives N2) ∷ []) ≡ Ok
@@ -63,50 +64,50 @@ four-early false false true d o is bad = rw is
 four-early false false false true o is bad = rw is
 four-early false false false false o is bad = absurd (bad is)
 
-module _ (access memory : List ℕ) (q : Query) where
+module _ (b : Board) (access memory : List ℕ) (q : Query) where
   abbrev kind : Kind
   kind = kindIn (q .message)
 
   abbrev seen : View
-  seen = viewIn access memory (rowIn q)
+  seen = viewIn b access memory (rowIn b q)
 
-  pub sender-passed : firstOf Ok (senderTable (listedIn access) q) ≡ Ok → outcomeOf seen q ≡ firstOf Ok (kindTable seen q kind)
+  pub sender-passed : firstOf Ok (senderTable b (listedIn access) q) ≡ Ok → outcomeOf seen q ≡ firstOf Ok (kindTable seen q kind)
   unfolding senderTable
-  sender-passed ok = whole-table access memory q ∙ four-passed _ _ _ _ (firstOf Ok (kindTable seen q kind)) ok
+  sender-passed ok = whole-table b access memory q ∙ four-passed _ _ _ _ (firstOf Ok (kindTable seen q kind)) ok
 
-  pub sender-refused : (o : Outcome) → o ≡ firstOf Ok (senderTable (listedIn access) q) → (o ≡ Ok → ⊥) → outcomeOf seen q ≡ o
+  pub sender-refused : (o : Outcome) → o ≡ firstOf Ok (senderTable b (listedIn access) q) → (o ≡ Ok → ⊥) → outcomeOf seen q ≡ o
   unfolding senderTable
-  sender-refused o is bad = whole-table access memory q ∙ four-refused _ _ _ _ (firstOf Ok (kindTable seen q kind)) o (sym is) bad
+  sender-refused o is bad = whole-table b access memory q ∙ four-refused _ _ _ _ (firstOf Ok (kindTable seen q kind)) o (sym is) bad
 
 -- ---- the whole table
 
-module _ (access memory : List ℕ) (channel : ℕ) (m words : List ℕ) where
-  module _ (room : ℕ) {first : Outcome} (told : first ≡ firstOf Ok (senderTable (listedIn access) (query channel m [] room))) where
+module _ (b : Board) (access memory : List ℕ) (channel : ℕ) (m words : List ℕ) where
+  module _ (room : ℕ) {first : Outcome} (told : first ≡ firstOf Ok (senderTable b (listedIn access) (query channel m [] room))) where
     -- the rows up to the sender need no status word
-    told-here : first ≡ firstOf Ok (senderTable (listedIn access) (query channel m words room))
+    told-here : first ≡ firstOf Ok (senderTable b (listedIn access) (query channel m words room))
     unfolding senderTable senderWrong
     told-here = told
 
-    pub passed-on : (memory′ : List ℕ) (d : Decision) → first ≡ Ok → DecidesKind access memory (asked channel m words) memory′ d
-        → Decides access memory (query channel m words room) memory′ d
+    pub passed-on : (memory′ : List ℕ) (d : Decision) → first ≡ Ok → DecidesKind b access memory (asked channel m words) memory′ d
+        → Decides b access memory (query channel m words room) memory′ d
     unfolding decisionOn subjectOf
     passed-on memory′ d ok meets =
         record {
           decision =
               meets .decision
               ∙ ap (decisionOn (kindIn m) (asked channel m words))
-              (roomless access memory channel m words (kindIn m) room ∙ sym (sender-passed access memory (query channel m words room) (sym told-here ∙ ok)));
-          records = meets .records ∙ same-effect (kindIn m) (d .outcome) memory channel m words words 0 room;
+              (roomless b access memory channel m words (kindIn m) room ∙ sym (sender-passed b access memory (query channel m words room) (sym told-here ∙ ok)));
+          records = meets .records ∙ same-effect b (kindIn m) (d .outcome) memory channel m words words 0 room;
         }
 
     pub refused-first : (first ≡ Ok → ⊥)
-        → Decides access memory (query channel m words room) memory (record { outcome = first; checks = 0; micros = 0 })
+        → Decides b access memory (query channel m words room) memory (record { outcome = first; checks = 0; micros = 0 })
     unfolding senderTable decisionOn waited memoryAfter
     refused-first bad =
         let early = four-early _ _ _ _ first told-here bad in
-        let is = sender-refused access memory (query channel m words room) first told-here bad in
+        let is = sender-refused b access memory (query channel m words room) first told-here bad in
         let no-wait : waited (kindIn m) first ≡ false =
-        ap (λ (b : Bool). isKind (kindIn m) WaitStatus && b) early ∙ and-false (isKind (kindIn m) WaitStatus)
+        ap (λ (x : Bool). isKind (kindIn m) WaitStatus && x) early ∙ and-false (isKind (kindIn m) WaitStatus)
         in
         let none : _≡_ {A = Decision} (record { outcome = first; checks = 0; micros = 0 }) (decisionOn (kindIn m) (query channel m words room) first) =
         rw no-wait

@@ -2,6 +2,7 @@
 use Prim.Native.Nat.{ℕ}
 use mathlib.Core.Path.{_≡_}
 use mathlib.Core.List.{List}
+use Rattle.rules.specs.Board.{Board}
 use Rattle.rules.specs.Message.{Query, kindIn}
 use Rattle.rules.specs.Outcome.{outcomeOf}
 use Rattle.records.specs.Memory.{viewIn}
@@ -9,6 +10,6 @@ use Rattle.operations.specs.declared.Decision.{Decision}
 use Rattle.operations.specs.Operation.{rowIn, memoryAfter, decisionOn}
 
 -- the whole table
-pub record Decides (access memory : List ℕ) (q : Query) (memory′ : List ℕ) (r : Decision) : Type 0 where
-  pub decision : r ≡ decisionOn (kindIn (q .message)) q (outcomeOf (viewIn access memory (rowIn q)) q)
-  pub records : memory′ ≡ memoryAfter (kindIn (q .message)) (r .outcome) memory q
+pub record Decides (b : Board) (access memory : List ℕ) (q : Query) (memory′ : List ℕ) (r : Decision) : Type 0 where
+  pub decision : r ≡ decisionOn (kindIn (q .message)) q (outcomeOf (viewIn b access memory (rowIn b q)) q)
+  pub records : memory′ ≡ memoryAfter b (kindIn (q .message)) (r .outcome) memory q

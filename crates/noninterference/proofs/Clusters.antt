@@ -6,14 +6,16 @@ use mathlib.Core.Bool.{true, false}
 use mathlib.Core.List.{List, [], _∷_}
 use native.Mathlib.Omega.{arith}
 use Rattle.rules.specs.declared.Record.{Record}
-use Rattle.rules.specs.Table.{firstOf, anyOf, allOf, placeOf}
-use Rattle.rules.specs.Board.{Board, ours, boardHost, activeHost, rows, rowOf, onBoard, classAt, classOf, clusterAt, homeAt, maskOf}
-use Rattle.rules.specs.AccessList.{noEntry, parts, partsFrom, namedIn, entryTable, entriesTable, listTable, verdictOf, accepted, entryIn, withPart, withParts, noEntries, entriesOf, hasEntry, isMaster, isSecondary, permitted}
+use Rattle.rules.specs.Table.{firstOf, anyOf, allOf, placeOf, allFrom, tableOf}
+use Rattle.rules.specs.Board.{Board, boardHost, activeHost, rowOf, onBoard, classAt, classOf, homeAt, homeOf, shareControl, maskOf}
+use Rattle.rules.specs.Description.{ourDescription, listsProcessor, markIn, rowIn, classIn, sharedCluster, sharedIn, homeIn, boardOf, ours}
+use Rattle.rules.specs.Verdict.{accepted}
+use Rattle.rules.specs.AccessList.{noEntry, parts, partsFrom, namedIn, entryTable, entriesTable, listTable, verdictOf, entryIn, withPart, withParts, noEntries, entriesOf, hasEntry, isMaster, isSecondary, permitted}
 use Rattle.rules.specs.Message.{kindOf, namesProcessor, subjectOf, isAbout}
 use Rattle.rules.specs.Outcome.{senderWrong, wordsMissing, waitFailed, admission, byWords, outcomeTable, outcomeOf, carriedOut}
 use Rattle.rules.specs.Effect.{recordAfter}
 use Rattle.rules.specs.State.{listed, State, freeOwn, fresh, entryOf, recordIn, recordOf, viewOf, putIn, stored}
-use Rattle.rules.specs.Call.{list, verdictTo, taken, afterOffer, afterMessage, Call, next}
+use Rattle.rules.specs.Call.{list, verdictTo, taken, afterOffer, afterMessage, Call, next, offer}
 use Rattle.rules.specs.Sequence.{permittedFor, run}
 use Rattle.rules.specs.Cluster.{clusterList, request, setControl}
 use Rattle.rules.proofs.Tests.{clash}
@@ -24,16 +26,16 @@ use Rattle.noninterference.proofs.Theorem.{freshly-loaded}
 -- ---- a list that names all four
 
 abbrev start : State
-start = afterOffer (fresh ours) (list clusterList)
+start = run (fresh ours) (offer (list clusterList) ∷ [])
 
 start-board : start .setup .board ≡ ours
-unfolding firstOf anyOf ours boardHost activeHost placeOf rows rowOf onBoard partsFrom namedIn entryTable entriesTable listTable verdictOf accepted listed fresh verdictTo taken afterOffer
+unfolding tableOf ours ourDescription listsProcessor markIn rowIn classIn sharedCluster sharedIn homeIn boardOf firstOf anyOf boardHost activeHost placeOf rowOf onBoard partsFrom namedIn entryTable entriesTable listTable verdictOf accepted listed fresh verdictTo taken afterOffer next run
 start-board = refl
 
 -- demand 3 holds for each choice from it that holds the cluster whole or not at all
 of-choice : (chosen : List ℕ) → allOf (namedIn (parts clusterList)) chosen ≡ true → clustersWhole ours chosen ≡ true → Noninterference start chosen
-unfolding firstOf anyOf allOf ours boardHost activeHost placeOf rows rowOf onBoard partsFrom namedIn entryTable entriesTable listTable verdictOf accepted
-of-choice chosen named whole = freshly-loaded ours clusterList chosen refl named whole
+unfolding tableOf ours ourDescription listsProcessor markIn rowIn classIn sharedCluster sharedIn homeIn boardOf firstOf anyOf allOf boardHost activeHost placeOf rowOf onBoard partsFrom namedIn entryTable entriesTable listTable verdictOf accepted
+of-choice chosen named whole = freshly-loaded clusterList chosen refl named whole
 
 pub one-alone : Noninterference start (1 ∷ [])
 unfolding anyOf allOf partsFrom namedIn
@@ -64,12 +66,12 @@ disturbed = request 10 32 ∷ request 12 33 ∷ setControl 12 33 0x1 0 ∷ []
 
 -- the two agree in what 32's insiders send about 32
 same-picks : picks (start .setup) (32 ∷ []) quiet ≡ picks (start .setup) (32 ∷ []) disturbed
-unfolding firstOf anyOf ours boardHost activeHost placeOf rows rowOf onBoard noEntry partsFrom namedIn entryTable entriesTable listTable verdictOf accepted entryIn withPart withParts noEntries entriesOf hasEntry isMaster isSecondary permitted kindOf namesProcessor subjectOf isAbout listed fresh entryOf verdictTo taken afterOffer permittedFor insider aboutChosen picked picks
+unfolding tableOf ours ourDescription listsProcessor markIn rowIn classIn sharedCluster sharedIn homeIn boardOf firstOf anyOf boardHost activeHost placeOf rowOf onBoard noEntry partsFrom namedIn entryTable entriesTable listTable verdictOf accepted entryIn withPart withParts noEntries entriesOf hasEntry isMaster isSecondary permitted kindOf namesProcessor subjectOf isAbout listed fresh entryOf verdictTo taken afterOffer permittedFor insider aboutChosen picked picks next run
 same-picks = refl
 
 -- and leave 32 different control words
 pub different-words : (recordOf (run start quiet) 32 .control ≡ 0) × (recordOf (run start disturbed) 32 .control ≡ 1)
-unfolding firstOf anyOf ours boardHost activeHost placeOf rows rowOf onBoard classAt classOf clusterAt homeAt maskOf noEntry partsFrom namedIn entryTable entriesTable listTable verdictOf accepted entryIn withPart withParts noEntries entriesOf hasEntry isMaster isSecondary permitted kindOf subjectOf senderWrong wordsMissing waitFailed admission byWords outcomeTable outcomeOf carriedOut recordAfter listed freeOwn fresh entryOf recordIn recordOf viewOf putIn stored verdictTo taken afterOffer afterMessage next run
+unfolding tableOf ours ourDescription listsProcessor markIn rowIn classIn sharedCluster sharedIn homeIn boardOf firstOf anyOf boardHost activeHost placeOf rowOf onBoard classAt classOf homeAt maskOf noEntry partsFrom namedIn entryTable entriesTable listTable verdictOf accepted entryIn withPart withParts noEntries entriesOf hasEntry isMaster isSecondary permitted kindOf subjectOf senderWrong wordsMissing waitFailed admission byWords outcomeTable outcomeOf carriedOut recordAfter listed freeOwn fresh entryOf recordIn recordOf viewOf putIn stored verdictTo taken afterOffer afterMessage next run
 different-words = (refl, refl)
 
 -- so demand 3 would be false of 32 alone

@@ -2,15 +2,16 @@
 -- chosen processors. Assumes nothing.
 use Prim.Native.Nat.{ℕ}
 use mathlib.Core.Path.{_≡_, sym, subst, subst⁻¹, _∙_, ap, ap₂}
-use mathlib.Core.Bool.{Bool, true, false, not, _||_}
+use mathlib.Core.Bool.{Bool, true, false, not, _&&_, _||_}
 use mathlib.Core.List.{List}
 use mathlib.Core.Logic.{⊎-elim}
+use native.Mathlib.Nat.{zero-add}
 use lib.ListN.{length}
 use lib.Dec.{eqb}
 use borrow.Author.Tests.{eqb-true, not-true}
-use Rattle.rules.specs.Table.{anyOf, allOf}
+use Rattle.rules.specs.Table.{anyOf, allFrom}
 use Rattle.rules.specs.declared.Record.{Record}
-use Rattle.rules.specs.Board.{Board, Processor, rows, rowOf, onBoard, homeAt, shareControl}
+use Rattle.rules.specs.Board.{Board, rows, rowOf, onBoard, homeAt, shareControl}
 use Rattle.rules.specs.Message.{Query, subjectOf, isAbout}
 use Rattle.rules.specs.Outcome.{View, outcomeOf, carriedOut}
 use Rattle.rules.specs.Effect.{recordAfter}
@@ -18,12 +19,11 @@ use Rattle.rules.specs.Answer.{reportOf, answerOf}
 use Rattle.rules.specs.State.{listed, Setup, State, ownOf, joined, freeOwn, entryOf, recordIn, recordOf, viewOf, putIn, stored}
 use Rattle.rules.specs.Call.{Offer, afterOffer, afterMessage, answerTo, Call, offer, message, next}
 use Rattle.rules.specs.Sequence.{permittedFor, freeOrPermitted, Sound}
-use Rattle.rules.proofs.Tests.{decide, clash, and-right, and-both, or-cases, anyOf-member, anyOf-find, allOf-member, set-alike}
-use Rattle.rules.proofs.Rows.{row-one, board-member}
-use Rattle.rules.proofs.Homes.{share-home}
+use Rattle.rules.proofs.Tests.{decide, clash, and-right, and-both, or-cases, anyOf-member, anyOf-find, allOf-member, allFrom-at, set-alike}
+use Rattle.rules.proofs.Rows.{on-table}
 use Rattle.rules.proofs.Rights.{allowed, sender-permitted, carried-about, about-names}
 use Rattle.rules.proofs.Sound.{offer-kept, message-refused, stored-other, sound-next}
-use Rattle.noninterference.specs.Statement.{clustersWhole, insider, aboutChosen, picked}
+use Rattle.noninterference.specs.Statement.{sharerChosen, clustersWhole, insider, aboutChosen, picked}
 
 -- a message about a chosen processor works on the record of that one
 subject-chosen : (chosen : List ℕ) (q : Query) → aboutChosen chosen q ≡ true → anyOf (eqb (subjectOf q)) chosen ≡ true
@@ -37,13 +37,14 @@ sharer-chosen : (b : Board) (chosen : List ℕ) → clustersWhole b chosen ≡ t
     → onBoard b x ≡ true → shareControl b p x ≡ true → anyOf (eqb x) chosen ≡ true
 unfolding clustersWhole
 sharer-chosen b chosen whole p x chose on shared =
-    ⊎-elim (λ apart. clash shared (not-true (shareControl b p x) apart)) (λ there. there)
-    (or-cases (not (shareControl b p x)) (anyOf (eqb x) chosen)
-    (board-member b (λ (n : ℕ). not (shareControl b p n) || anyOf (eqb n) chosen) x
-    (allOf-member
-    (λ (r : ℕ). allOf (λ (y : Processor). not (shareControl b r (y .number)) || anyOf (eqb (y .number)) chosen) (b .processors))
-    chosen p whole chose)
-    on))
+    let passes =
+    allFrom-at (λ (n row : ℕ). sharerChosen b chosen p n) (b .places) 0 x rows
+    (allOf-member (λ (r : ℕ). allFrom (λ (n row : ℕ). sharerChosen b chosen r n) 0 (b .places)) chosen p whole chose)
+    (on-table b x on)
+    in
+    ⊎-elim (λ apart. clash (and-both on shared) (not-true (onBoard b x && shareControl b p x) apart)) (λ there. there)
+    (or-cases (not (onBoard b x && shareControl b p x)) (anyOf (eqb x) chosen)
+    (subst (λ (n : ℕ). sharerChosen b chosen p n ≡ true) (zero-add x) passes))
 
 module _ (setup : Setup) (chosen : List ℕ) (something : listed (setup .source) ≡ true) (whole : clustersWhole (setup .board) chosen ≡ true) where
   -- the states that sequences from the start can leave
@@ -89,7 +90,7 @@ module _ (setup : Setup) (chosen : List ℕ) (something : listed (setup .source)
     -- a call that is not picked leaves the chosen records: what is their own, and the control words that they share
     pub unpicked-keeps : (q : Query) → picked setup chosen q ≡ false → (p : ℕ) → anyOf (eqb p) chosen ≡ true
         → recordOf (afterMessage s q) p ≡ recordOf s p
-    unfolding afterMessage viewOf
+    unfolding afterMessage viewOf shareControl
     unpicked-keeps q out p m =
         let b = s .setup .board in
         let x = subjectOf q in
@@ -99,13 +100,13 @@ module _ (setup : Setup) (chosen : List ℕ) (something : listed (setup .source)
         let elsewhere = unpicked-elsewhere q out ok in
         let whole-here = subst⁻¹ (λ (u : Setup). clustersWhole (u .board) chosen ≡ true) (r .same) whole in
         let apart : eqb (rowOf b p) (rowOf b x) ≡ false =
-        ⊎-elim (λ same. clash (subst (λ (y : ℕ). anyOf (eqb y) chosen ≡ true) (row-one b p x (eqb-true _ _ same) on) m) elsewhere) (λ f. f)
+        ⊎-elim (λ same. clash (subst (λ (y : ℕ). anyOf (eqb y) chosen ≡ true) (r .sound .board-good .rows-apart p x (eqb-true _ _ same) on) m) elsewhere) (λ f. f)
         (decide (eqb (rowOf b p) (rowOf b x)))
         in
         let unshared : shareControl b p x ≡ false =
         ⊎-elim (λ shared. clash (sharer-chosen b chosen whole-here p x m on shared) elsewhere) (λ f. f) (decide (shareControl b p x))
         in
-        stored-other s x (recordAfter (viewOf s x) q) p apart (sym (share-home b p x on) ∙ unshared))
+        stored-other s x (recordAfter (viewOf s x) q) p apart unshared)
         (λ refused. ap (λ (t : State). recordOf t p) (message-refused s q refused))
         (decide (carriedOut (outcomeOf (viewOf s x) q)))
 
@@ -141,8 +142,7 @@ module _ (setup : Setup) (chosen : List ℕ) (something : listed (setup .source)
   same-size : (s t : State) → Reached s → Reached t
       → (length (s .records .own) ≡ length (t .records .own)) × (length (s .records .controls) ≡ length (t .records .controls))
   same-size s t rs rt =
-      let same = ap (λ (u : Setup). rows (u .board)) (rs .same ∙ sym (rt .same)) in
-      (rs .sound .rows-there ∙ same ∙ sym (rt .sound .rows-there), rs .sound .homes-there ∙ same ∙ sym (rt .sound .homes-there))
+      (rs .sound .rows-there ∙ sym (rt .sound .rows-there), rs .sound .homes-there ∙ sym (rt .sound .homes-there))
 
   module _ (s t : State) (rs : Reached s) (rt : Reached t) (agree : Agree s t) (q : Query) (pick : picked setup chosen q ≡ true) where
     view-same : viewOf s (subjectOf q) ≡ viewOf t (subjectOf q)

@@ -1,25 +1,35 @@
 -- "What demand 3 speaks of", and demand 3 as one claim about whole sequences of calls: `Noninterference`. Its theorem is in
--- proofs/Theorem.antt. The rules are those of crate `rules`, for any board. Crate traces says the same of the code. Assumes nothing.
+-- proofs/Theorem.antt. The rules are those of crate `rules`, for the board in force. Crate traces says the same of the code. Assumes nothing.
 use Prim.Native.Nat.{ℕ}
 use mathlib.Core.Path.{_≡_}
 use mathlib.Core.Bool.{Bool, true, false, cond, not, _&&_, _||_}
 use mathlib.Core.List.{List, [], _∷_}
 use lib.Dec.{eqb}
-use Rattle.rules.specs.Table.{anyOf, allOf}
-use Rattle.rules.specs.Board.{Board, Processor, shareControl}
-use Rattle.rules.specs.AccessList.{parts, namedIn, hasEntry, verdictOf, accepted}
+use Rattle.rules.specs.Table.{anyOf, allOf, allFrom}
+use Rattle.rules.specs.Verdict.{accepted}
+use Rattle.rules.specs.Board.{Board, onBoard, shareControl}
+use Rattle.rules.specs.Description.{Processor, Description, shareWord, boardVerdict, descriptionIn, described, ours}
+use Rattle.rules.specs.AccessList.{parts, namedIn, hasEntry, verdictOf}
 use Rattle.rules.specs.Message.{Query, isAbout}
 use Rattle.rules.specs.Outcome.{carriedOut}
 use Rattle.rules.specs.State.{listed, listIn, Setup, State, fresh, entryOf, recordOf}
-use Rattle.rules.specs.Call.{list, afterOffer, Answer, answerTo, queryOf, Call, offer, message, next}
+use Rattle.rules.specs.Call.{board, list, Answer, answerTo, queryOf, Call, offer, message, next}
 use Rattle.rules.specs.Sequence.{run, permittedFor, freeOrPermitted}
 
--- document 02, L4: the chosen processors "hold a cluster whole or not at all": every processor of the board that shares its control word with a
--- chosen one is chosen
+-- number x is no processor of the board that shares its control word with p, or it is chosen
+abbrev pub sharerChosen : Board → List ℕ → ℕ → ℕ → Bool
+sharerChosen b chosen p x = not (onBoard b x && shareControl b p x) || anyOf (eqb x) chosen
+
+-- document 02, L4: the chosen processors "hold a cluster whole or not at all": so it is for each chosen one and each number in the board's table
+-- of rows
 unfoldable pub clustersWhole : Board → List ℕ → Bool
-clustersWhole b chosen =
+clustersWhole b chosen = allOf (λ (p : ℕ). allFrom (λ (x row : ℕ). sharerChosen b chosen p x) 0 (b .places)) chosen
+
+-- the same in the words of a description: each that it lists is chosen where it is of one ARMv8 cluster with a chosen one
+unfoldable pub clustersListed : Description → List ℕ → Bool
+clustersListed d chosen =
     allOf
-    (λ (p : ℕ). allOf (λ (x : Processor). not (shareControl b p (x .number)) || anyOf (eqb (x .number)) chosen) (b .processors))
+    (λ (p : ℕ). allOf (λ (x : Processor). not (shareWord d p (x .number)) || anyOf (eqb (x .number)) chosen) (d .processors))
     chosen
 
 -- what the start must be: a list was accepted, every chosen processor has an entry, that is, a used entry of that list's bytes names it, and
@@ -57,7 +67,7 @@ answers setup chosen s (message lent ∷ cs) =
     (answerTo s (queryOf lent) ∷ answers setup chosen (next s (message lent)) cs)
     (answers setup chosen (next s (message lent)) cs)
 
--- demand 3, for a start and the chosen processors, over all sequences of calls from that start, list calls among them
+-- demand 3, for a start and the chosen processors, over all sequences of calls from that start, lists and boards that are offered among them
 pub record Noninterference (s : State) (chosen : List ℕ) : Type 0 where
   -- each chosen processor has an entry, so that a host permitted for it is one that its entry names
   pub has-entry : (p : ℕ) → anyOf (eqb p) chosen ≡ true → hasEntry (entryOf (s .setup) p) ≡ true
@@ -83,20 +93,40 @@ pub record Noninterference (s : State) (chosen : List ℕ) : Type 0 where
       → insider (s .setup) chosen (q .channel) ≡ false
       → carriedOut (answerTo (run s calls) q .report .outcome) ≡ false
 
--- from every state that calls left and that is such a start
-abbrev pub FromEveryStart : Board → Type 0
-FromEveryStart b =
-    (before : List Call) (chosen : List ℕ) → Ready (run (fresh b) before) chosen → Noninterference (run (fresh b) before) chosen
+-- from every state that calls left and that is such a start. Until a description is taken document 01's board stands, and those calls may take any
+abbrev pub FromEveryStart : Type 0
+FromEveryStart =
+    (before : List Call) (chosen : List ℕ) → Ready (run (fresh ours) before) chosen → Noninterference (run (fresh ours) before) chosen
 
--- the state that an accepted list leaves is one
-abbrev pub FreshlyLoaded : Board → Type 0
-FreshlyLoaded b =
+-- the state that an accepted list leaves on document 01's board is one
+abbrev pub FreshlyLoaded : Type 0
+FreshlyLoaded =
     (bytes chosen : List ℕ)
-    → accepted (verdictOf b false bytes) ≡ true
+    → accepted (verdictOf ours false bytes) ≡ true
     → allOf (namedIn (parts bytes)) chosen ≡ true
-    → clustersWhole b chosen ≡ true
-    → Noninterference (afterOffer (fresh b) (list bytes)) chosen
+    → clustersWhole ours chosen ≡ true
+    → Noninterference (run (fresh ours) (offer (list bytes) ∷ [])) chosen
 
--- calls that come before the first accepted list leave the state as it was, so that start depends on the list alone
-abbrev pub NoTrace : Board → Type 0
-NoTrace b = (calls : List Call) → listed (run (fresh b) calls .setup .source) ≡ false → run (fresh b) calls ≡ fresh b
+-- and so is, for every accepted description, the one that a list leaves which its board accepts
+abbrev pub ForEveryDescription : Type 0
+ForEveryDescription =
+    (description bytes chosen : List ℕ)
+    → accepted (boardVerdict false description) ≡ true
+    → accepted (verdictOf (described description) false bytes) ≡ true
+    → allOf (namedIn (parts bytes)) chosen ≡ true
+    → clustersListed (descriptionIn description) chosen ≡ true
+    → Noninterference (run (fresh ours) (offer (board description) ∷ offer (list bytes) ∷ [])) chosen
+
+-- the board that calls before the first accepted list leave in force: that of the last accepted description
+unfoldable pub boardLeft : Board → List Call → Board
+boardLeft b [] = b
+boardLeft b (offer (board bytes) ∷ cs) = boardLeft (cond (accepted (boardVerdict false bytes)) (described bytes) b) cs
+boardLeft b (offer (list bytes) ∷ cs) = boardLeft b cs
+boardLeft b (message lent ∷ cs) = boardLeft b cs
+
+-- they leave nothing else, so that start depends on that board and the list alone
+abbrev pub NoTrace : Type 0
+NoTrace =
+    (calls : List Call)
+    → listed (run (fresh ours) calls .setup .source) ≡ false
+    → run (fresh ours) calls ≡ fresh (boardLeft ours calls)

@@ -1,7 +1,7 @@
 // The numbers of outcomes and verdicts, for the log, the printed lines and the callers in C. The rules are
 // `outcomeNumber` and `verdictNumber` in rules/specs.
 ghost use mathlib.Core.Path.{_≡_};
-ghost use Rattle.rules.specs.AccessList.{verdictNumber};
+ghost use Rattle.rules.specs.Verdict.{verdictNumber};
 ghost use Rattle.rules.specs.Outcome.{outcomeNumber};
 use rules::Outcome;
 use rules::Verdict;
@@ -27,7 +27,7 @@ pub fn outcome_number(outcome: Outcome) -> u32
     }
 }
 
-// Document 01's number of a verdict: 0 for an accepted list, k for Ak.
+// The number of a verdict: 0 for accepted, k for Ak, 200 + k for Dk.
 pub fn verdict_number(verdict: Verdict) -> u32
     ensures { λ r. ⌜ r ≡ verdictNumber verdict ⌝ }
 {
@@ -41,5 +41,11 @@ pub fn verdict_number(verdict: Verdict) -> u32
         Verdict::A6 => 6,
         Verdict::A7 => 7,
         Verdict::A8 => 8,
+        Verdict::D1 => 201,
+        Verdict::D2 => 202,
+        Verdict::D3 => 203,
+        Verdict::D4 => 204,
+        Verdict::D5 => 205,
+        Verdict::D6 => 206,
     }
 }

@@ -1,19 +1,19 @@
 -- The rows from N4 on, as the functions test them: which outcome a test that holds gives, once those above it failed, and what that
 -- leaves in the record memory. Once for every type. Assumes nothing.
 use Prim.Native.Nat.{ℕ, _≤_, _<_}
-use mathlib.Core.Path.{_≡_, refl, sym, subst, ap, _∙_}
+use mathlib.Core.Path.{_≡_, refl, sym, subst, subst⁻¹, ap, _∙_}
 use mathlib.Core.Bool.{Bool, true, false, not}
 use mathlib.Core.List.{List}
 use lib.ListN.{length}
 use lib.Dec.{eqb}
-use borrow.Author.Tests.{lt-ltb, le-ltb, not-true, not-false}
+use borrow.Author.Tests.{lt-ltb, le-ltb, ltb-true, not-true, not-false}
 use Rattle.rules.specs.declared.Kind.{Kind}
 use Rattle.rules.specs.declared.Kind.the-variants.{GetStatus, WaitStatus}
 use Rattle.rules.specs.declared.Outcome.{Outcome}
 use Rattle.rules.specs.declared.Outcome.the-variants.{N4, N5, N6, N7, N8, Ok}
 use Rattle.rules.specs.declared.Record.{Record}
 use Rattle.rules.specs.Table.{firstOf}
-use Rattle.rules.specs.Board.{ours, rows, rowOf, onBoard, classAt, classOf, homeAt}
+use Rattle.rules.specs.Board.{Board, rows, rowOf, onBoard, classAt, classOf, homeAt}
 use Rattle.rules.specs.Bytes.{u16At}
 use Rattle.rules.specs.Message.{Query, kindOf, kindIn, sizeOf, isKind, processorOf, subjectOf}
 use Rattle.rules.specs.Outcome.{View, tooShort, notOffered, hasRight, operandsGood, wordsMissing, waitFailed, byWords, carriedOut, outcomeNumber}
@@ -22,7 +22,7 @@ use Rattle.rules.specs.State.{ownOf}
 use Rattle.rules.proofs.Tests.{cond-true, cond-false}
 use Rattle.access.specs.Memory.{viewWith}
 use Rattle.records.specs.Memory.{recordAt, viewIn, withOwn, withControlWord, withRecord}
-use Rattle.records.proofs.LentMemory.{own-stored, control-stored}
+use Rattle.records.proofs.LentMemory.{word-stands, own-stands, own-stored, control-stored}
 use Rattle.operations.specs.Operation.{typeTable, rowIn, memoryAfter, Carries}
 
 -- ---- what a test of x says of the t that x is
@@ -39,13 +39,13 @@ told-kind m found read is = sym (found ∙ ap kindOf read) ∙ is
 
 -- ---- the board's rows, as the code tests them
 
-pub row-off : (b : ℕ) → 4 ≤ rowOf ours b → onBoard ours b ≡ false
-unfolding onBoard rows ours
-row-off p h = le-ltb (rowOf ours p) 4 h
+row-off : (b : Board) (p : ℕ) → rows ≤ rowOf b p → onBoard b p ≡ false
+unfolding onBoard
+row-off b p h = le-ltb (rowOf b p) rows h
 
-pub row-on : (b : ℕ) → rowOf ours b < 4 → onBoard ours b ≡ true
-unfolding onBoard rows ours
-row-on p h = lt-ltb (rowOf ours p) 4 h
+row-on : (b : Board) (p : ℕ) → rowOf b p < rows → onBoard b p ≡ true
+unfolding onBoard
+row-on b p h = lt-ltb (rowOf b p) rows h
 
 -- ---- the outcome
 
@@ -84,75 +84,75 @@ module _ (k : Kind) (v : View) (q : Query) where
 -- ---- the rows as the code tests them
 
 -- what a message of type k comes to, with this access memory and this record
-pub record Comes (k : Kind) (q : Query) (access : List ℕ) (state : Record) (o : Outcome) : Type 0 where
-  pub is : outcome k (viewWith access (rowIn q) state) q ≡ o
+pub record Comes (b : Board) (k : Kind) (q : Query) (access : List ℕ) (state : Record) (o : Outcome) : Type 0 where
+  pub is : outcome k (viewWith b access (rowIn b q) state) q ≡ o
 
 -- and it is a refusal that reports no checks
-pub record Refused (k : Kind) (q : Query) (access : List ℕ) (state : Record) (o : Outcome) : Type 0 where
-  pub comes : Comes k q access state o
+pub record Refused (b : Board) (k : Kind) (q : Query) (access : List ℕ) (state : Record) (o : Outcome) : Type 0 where
+  pub comes : Comes b k q access state o
   pub refused : carriedOut o ≡ false
   pub early : eqb (outcomeNumber o) 9 ≡ false
 
 -- past N8: what is left are the rows on status words
-abbrev pub Admitted : Kind → Query → List ℕ → Record → Type 0
-Admitted k q access state = Comes k q access state (firstOf Ok (byWords q k))
+abbrev pub Admitted : Board → Kind → Query → List ℕ → Record → Type 0
+Admitted b k q access state = Comes b k q access state (firstOf Ok (byWords q k))
 
 -- past N6: the message is whole, the processor that it names has this row, and the record at hand is `state′`, which the rules see
-pub record Reached (k : Kind) (q : Query) (row : ℕ) (state state′ : Record) : Type 0 where
+pub record Reached (b : Board) (k : Kind) (q : Query) (row : ℕ) (state state′ : Record) : Type 0 where
   pub whole : tooShort k q ≡ false
   pub offered : notOffered k ≡ false
-  pub here : row ≡ rowIn q
-  pub on : onBoard ours (subjectOf q) ≡ true
+  pub here : row ≡ rowIn b q
+  pub on : onBoard b (subjectOf q) ≡ true
   pub same : state ≡ state′
 
 -- and it was loaded from that row
-pub record Loaded (k : Kind) (q : Query) (memory : List ℕ) (row : ℕ) (state : Record) : Type 0 where
-  pub reached : Reached k q row state (recordAt memory (rowIn q))
+pub record Loaded (b : Board) (k : Kind) (q : Query) (memory : List ℕ) (row : ℕ) (state : Record) : Type 0 where
+  pub reached : Reached b k q row state (recordAt b memory (rowIn b q))
 
-module _ {k : Kind} {q : Query} {access : List ℕ} {state : Record} where
-  pub too-short : length (q .message) < sizeOf k → Refused k q access state N4
+module _ {b : Board} {k : Kind} {q : Query} {access : List ℕ} {state : Record} where
+  pub too-short : length (q .message) < sizeOf k → Refused b k q access state N4
   unfolding carriedOut
   too-short short = record { comes = record { is = is-N4 k _ q (lt-ltb _ _ short) }; refused = refl; early = refl }
 
   module _ {row : ℕ} (whole : sizeOf k ≤ length (q .message)) (offered : notOffered k ≡ false)
-      (here : row ≡ rowOf ours (processorOf (q .message))) where
-    pub off-board : 4 ≤ row → Refused k q access state N6
+      (here : row ≡ rowOf b (processorOf (q .message))) where
+    pub off-board : rows ≤ row → Refused b k q access state N6
     unfolding carriedOut subjectOf
     off-board off =
         record {
-          comes = record { is = is-N6 k _ q (le-ltb _ _ whole) offered (row-off _ (rw here at off)) };
+          comes = record { is = is-N6 k _ q (le-ltb _ _ whole) offered (row-off b _ (rw here at off)) };
           refused = refl;
           early = refl;
         }
 
-module _ {k : Kind} {q : Query} {row : ℕ} {state : Record} (whole : sizeOf k ≤ length (q .message)) (offered : notOffered k ≡ false)
-    (here : row ≡ rowOf ours (processorOf (q .message))) (on : row < 4) where
-  pub reached : {state′ : Record} → state ≡ state′ → Reached k q row state state′
+module _ {b : Board} {k : Kind} {q : Query} {row : ℕ} {state : Record} (whole : sizeOf k ≤ length (q .message)) (offered : notOffered k ≡ false)
+    (here : row ≡ rowOf b (processorOf (q .message))) (on : row < rows) where
+  pub reached : {state′ : Record} → state ≡ state′ → Reached b k q row state state′
   unfolding subjectOf
   reached same =
-      record { whole = le-ltb _ _ whole; offered = offered; here = here; on = row-on _ (rw here at on); same = same }
+      record { whole = le-ltb _ _ whole; offered = offered; here = here; on = row-on b _ (rw here at on); same = same }
 
-  pub loaded-at : {memory : List ℕ} → state ≡ recordAt memory row → Loaded k q memory row state
+  pub loaded-at : {memory : List ℕ} → state ≡ recordAt b memory row → Loaded b k q memory row state
   unfolding subjectOf
-  loaded-at {memory} loaded = record { reached = reached (loaded ∙ ap (recordAt memory) here) }
+  loaded-at {memory} loaded = record { reached = reached (loaded ∙ ap (recordAt b memory) here) }
 
-module _ {k : Kind} {q : Query} {row : ℕ} {state state′ : Record} (r : Reached k q row state state′) where
+module _ {b : Board} {k : Kind} {q : Query} {row : ℕ} {state state′ : Record} (r : Reached b k q row state state′) where
   -- a test of the class that the code finds by the row
-  pub by-class : (good : ℕ → List ℕ → Bool) {class : ℕ} {y : Bool} → class ≡ classAt ours row → y ≡ good class (q .message)
-      → y ≡ good (classOf ours (subjectOf q)) (q .message)
+  pub by-class : (good : ℕ → List ℕ → Bool) {class : ℕ} {y : Bool} → class ≡ classAt b row → y ≡ good class (q .message)
+      → y ≡ good (classOf b (subjectOf q)) (q .message)
   unfolding classOf
-  by-class good found is = is ∙ ap (λ (n : ℕ). good n (q .message)) (found ∙ ap (classAt ours) (r .here))
+  by-class good found is = is ∙ ap (λ (n : ℕ). good n (q .message)) (found ∙ ap (classAt b) (r .here))
 
   module _ {access : List ℕ} where
     -- what the code sees comes to what the rules see
-    as-seen : {o : Outcome} → outcome k (viewWith access row state) q ≡ o → Comes k q access state′ o
+    as-seen : {o : Outcome} → outcome k (viewWith b access row state) q ≡ o → Comes b k q access state′ o
     as-seen {o} is =
         record {
-          is = subst (λ (s : Record). outcome k (viewWith access (rowIn q) s) q ≡ o) (r .same)
-              (subst (λ (n : ℕ). outcome k (viewWith access n state) q ≡ o) (r .here) is);
+          is = subst (λ (s : Record). outcome k (viewWith b access (rowIn b q) s) q ≡ o) (r .same)
+              (subst (λ (n : ℕ). outcome k (viewWith b access n state) q ≡ o) (r .here) is);
         }
 
-    pub lacks-right : {x : Bool} → x ≡ hasRight k (viewWith access row state) q → not x ≡ true → Refused k q access state′ N7
+    pub lacks-right : {x : Bool} → x ≡ hasRight k (viewWith b access row state) q → not x ≡ true → Refused b k q access state′ N7
     unfolding carriedOut
     lacks-right is lacks =
         record {
@@ -161,8 +161,8 @@ module _ {k : Kind} {q : Query} {row : ℕ} {state state′ : Record} (r : Reach
           early = refl;
         }
 
-    module _ {x : Bool} (is : x ≡ hasRight k (viewWith access row state) q) (has : not x ≡ false) where
-      pub wrong-operands : {y : Bool} → y ≡ operandsGood k (viewWith access row state) q → not y ≡ true → Refused k q access state′ N8
+    module _ {x : Bool} (is : x ≡ hasRight k (viewWith b access row state) q) (has : not x ≡ false) where
+      pub wrong-operands : {y : Bool} → y ≡ operandsGood k (viewWith b access row state) q → not y ≡ true → Refused b k q access state′ N8
       unfolding carriedOut
       wrong-operands good wrong =
           record {
@@ -171,43 +171,48 @@ module _ {k : Kind} {q : Query} {row : ℕ} {state state′ : Record} (r : Reach
             early = refl;
           }
 
-      pub admitted : {y : Bool} → y ≡ operandsGood k (viewWith access row state) q → not y ≡ false → Admitted k q access state′
+      pub admitted : {y : Bool} → y ≡ operandsGood k (viewWith b access row state) q → not y ≡ false → Admitted b k q access state′
       admitted good right =
           as-seen (by-words k _ q (r .whole) (r .offered) (r .on) (told-true is has) (told-true good right))
 
 -- ---- the memory
 
 -- the record that was loaded is the one at that row
-loaded-is : {k : Kind} {q : Query} {memory : List ℕ} {row : ℕ} {state : Record} → Loaded k q memory row state → state ≡ recordAt memory row
-loaded-is {memory = memory} l = l .reached .same ∙ ap (recordAt memory) (sym (l .reached .here))
+loaded-is : {b : Board} {k : Kind} {q : Query} {memory : List ℕ} {row : ℕ} {state : Record} → Loaded b k q memory row state → state ≡ recordAt b memory row
+loaded-is {b} {memory = memory} l = l .reached .same ∙ ap (recordAt b memory) (sym (l .reached .here))
 
-module _ {k : Kind} {access memory : List ℕ} {q : Query} where
+-- at one of the rows
+loaded-row : {b : Board} {k : Kind} {q : Query} {memory : List ℕ} {row : ℕ} {state : Record} → Loaded b k q memory row state → row < rows
+unfolding onBoard
+loaded-row {b} {q = q} l = subst⁻¹ (λ (n : ℕ). n < rows) (l .reached .here) (ltb-true (rowOf b (subjectOf q)) rows (l .reached .on))
+
+module _ {b : Board} {k : Kind} {access memory : List ℕ} {q : Query} where
   -- a refusal leaves it
-  pub refuses : {o : Outcome} → Refused k q access (recordAt memory (rowIn q)) o → Carries k access memory q memory o
+  pub refuses : {o : Outcome} → Refused b k q access (recordAt b memory (rowIn b q)) o → Carries b k access memory q memory o
   unfolding memoryAfter viewIn
   refuses r = record { outcome = sym (r .comes .is); records = sym (cond-false _ _ (r .refused)) }
 
   -- OK has its effect: for the types that look at no status word
   module _ {row : ℕ} {state next : Record} {memory′ : List ℕ} (get : isKind k GetStatus ≡ false) (wait : isKind k WaitStatus ≡ false)
-      (l : Loaded k q memory row state) (comes : Admitted k q access (recordAt memory (rowIn q))) (effect : next ≡ effectOf k q state) where
-    carries : memory′ ≡ withRecord memory row next → Carries k access memory q memory′ Ok
+      (l : Loaded b k q memory row state) (comes : Admitted b k q access (recordAt b memory (rowIn b q))) (effect : next ≡ effectOf k q state) where
+    carries : memory′ ≡ withRecord b memory row next → Carries b k access memory q memory′ Ok
     unfolding memoryAfter carriedOut viewIn firstOf byWords wordsMissing waitFailed
     carries stored =
         record {
           outcome = sym (comes .is ∙ rw (get, wait));
           records = stored
-              ∙ ap (withRecord memory row) (effect ∙ ap (effectOf k q) (l .reached .same))
-              ∙ ap (λ (n : ℕ). withRecord memory n (effectOf k q (recordAt memory (rowIn q)))) (l .reached .here);
+              ∙ ap (withRecord b memory row) (effect ∙ ap (effectOf k q) (l .reached .same))
+              ∙ ap (λ (n : ℕ). withRecord b memory n (effectOf k q (recordAt b memory (rowIn b q)))) (l .reached .here);
         }
 
     -- an effect that keeps the control word is stored in what is the processor's own, and one that keeps that in the control word
     pub carries-own : ((r : Record) → effectOf k q r .control ≡ r .control) → memory′ ≡ withOwn memory row (ownOf next)
-        → Carries k access memory q memory′ Ok
+        → Carries b k access memory q memory′ Ok
     carries-own keeps stored =
         carries
-        (stored ∙ own-stored memory row next (ap (λ (r : Record). r .control) effect ∙ keeps state ∙ ap (λ (r : Record). r .control) (loaded-is l)))
+        (stored ∙ own-stored b memory row next (ap (λ (r : Record). r .control) effect ∙ keeps state ∙ ap (λ (r : Record). r .control) (loaded-is l) ∙ word-stands b memory row))
 
-    pub carries-control : ((r : Record) → ownOf (effectOf k q r) ≡ ownOf r) → memory′ ≡ withControlWord memory (homeAt ours row) (next .control)
-        → Carries k access memory q memory′ Ok
+    pub carries-control : ((r : Record) → ownOf (effectOf k q r) ≡ ownOf r) → memory′ ≡ withControlWord memory (homeAt b row) (next .control)
+        → Carries b k access memory q memory′ Ok
     carries-control keeps stored =
-        carries (stored ∙ control-stored memory row next (ap ownOf effect ∙ keeps state ∙ ap ownOf (loaded-is l)))
+        carries (stored ∙ control-stored b memory row next (ap ownOf effect ∙ keeps state ∙ ap ownOf (loaded-is l) ∙ own-stands b memory row (loaded-row l)))

@@ -12,6 +12,7 @@ use Rattle.rules.specs.declared.Outcome.the-variants.{N9, R3, Ok}
 use Rattle.rules.specs.declared.Record.{Record}
 use Rattle.rules.specs.declared.Wait.{Wait}
 use Rattle.rules.specs.Table.{firstOf}
+use Rattle.rules.specs.Board.{Board}
 use Rattle.rules.specs.Message.{Query, waitIn}
 use Rattle.rules.specs.Wait.{ranOut, checksOf, microsOf}
 use Rattle.rules.specs.Outcome.{wordsMissing, waitFailed, byWords, carriedOut}
@@ -24,50 +25,50 @@ use Rattle.operations.proofs.Rows.{Comes, Refused, Admitted}
 
 -- ---- of any type
 
-module _ {k : Kind} {q : Query} {access : List ℕ} {state : Record} (past : Admitted k q access state) where
-  words-missing : wordsMissing k q ≡ true → Refused k q access state R3
+module _ {b : Board} {k : Kind} {q : Query} {access : List ℕ} {state : Record} (past : Admitted b k q access state) where
+  words-missing : wordsMissing k q ≡ true → Refused b k q access state R3
   unfolding carriedOut firstOf byWords
   words-missing missing =
       record { comes = record { is = past .is ∙ cond-true _ _ missing }; refused = refl; early = refl }
 
-  words-there : wordsMissing k q ≡ false → Comes k q access state (cond (waitFailed k q) N9 Ok)
+  words-there : wordsMissing k q ≡ false → Comes b k q access state (cond (waitFailed k q) N9 Ok)
   unfolding firstOf byWords
   words-there there = record { is = past .is ∙ cond-false _ _ there }
 
 -- ---- get status
 
-module _ {q : Query} {access : List ℕ} {state : Record} (past : Admitted GetStatus q access state) where
-  pub no-word : length (q .status) ≡ 0 → Refused GetStatus q access state R3
+module _ {b : Board} {q : Query} {access : List ℕ} {state : Record} (past : Admitted b GetStatus q access state) where
+  pub no-word : length (q .status) ≡ 0 → Refused b GetStatus q access state R3
   unfolding wordsMissing
   no-word none = words-missing past (or-false _ ∙ eq-eqb _ 0 none)
 
-  pub a-word : (length (q .status) ≡ 0 → ⊥) → Comes GetStatus q access state Ok
+  pub a-word : (length (q .status) ≡ 0 → ⊥) → Comes b GetStatus q access state Ok
   unfolding wordsMissing waitFailed
   a-word some = words-there past (or-false _ ∙ ne-eqb _ 0 some)
 
 -- what the contract asks
-pub reads : {q : Query} {access : List ℕ} {state : Record} {o : Outcome} → Comes GetStatus q access state o
-    → o ≡ firstOf Ok (typeTable (viewWith access (rowIn q) state) q GetStatus)
+pub reads : {b : Board} {q : Query} {access : List ℕ} {state : Record} {o : Outcome} → Comes b GetStatus q access state o
+    → o ≡ firstOf Ok (typeTable (viewWith b access (rowIn b q) state) q GetStatus)
 reads comes = sym (comes .is)
 
 -- ---- wait status
 
-module _ {q : Query} {access : List ℕ} {state : Record} {w : Wait} (past : Admitted WaitStatus q access state)
+module _ {b : Board} {q : Query} {access : List ℕ} {state : Record} {w : Wait} (past : Admitted b WaitStatus q access state)
     (here : w ≡ waitIn (q .message)) where
-  pub few-words : length (q .status) < w .waits → Refused WaitStatus q access state R3
+  pub few-words : length (q .status) < w .waits → Refused b WaitStatus q access state R3
   unfolding wordsMissing
   few-words few = words-missing past (lt-ltb _ _ (subst (λ (v : Wait). length (q .status) < v .waits) here few))
 
-  pub enough-words : w .waits ≤ length (q .status) → Comes WaitStatus q access state (cond (ranOut w (q .status)) N9 Ok)
+  pub enough-words : w .waits ≤ length (q .status) → Comes b WaitStatus q access state (cond (ranOut w (q .status)) N9 Ok)
   unfolding wordsMissing waitFailed
   enough-words enough =
-      subst (λ (v : Wait). Comes WaitStatus q access state (cond (ranOut v (q .status)) N9 Ok)) (sym here)
+      subst (λ (v : Wait). Comes b WaitStatus q access state (cond (ranOut v (q .status)) N9 Ok)) (sym here)
       (words-there past (le-ltb _ _ (subst (λ (v : Wait). v .waits ≤ length (q .status)) here enough)))
 
 -- a refusal reports no checks
-pub unwaits : {q : Query} {access : List ℕ} {state : Record} {o : Outcome} {d : Decision} → Refused WaitStatus q access state o
+pub unwaits : {b : Board} {q : Query} {access : List ℕ} {state : Record} {o : Outcome} {d : Decision} → Refused b WaitStatus q access state o
     → d ≡ record { outcome = o; checks = 0; micros = 0 }
-    → d ≡ decisionOn WaitStatus q (firstOf Ok (typeTable (viewWith access (rowIn q) state) q WaitStatus))
+    → d ≡ decisionOn WaitStatus q (firstOf Ok (typeTable (viewWith b access (rowIn b q) state) q WaitStatus))
 unfolding decisionOn waited
 unwaits r is = is ∙ rw (r .comes .is, r .refused, r .early)
 
@@ -77,9 +78,9 @@ unfolding waited carriedOut
 ended true = refl
 ended false = refl
 
-pub waits : {q : Query} {access : List ℕ} {state : Record} {w : Wait} {d : Decision} → w ≡ waitIn (q .message)
-    → Comes WaitStatus q access state (cond (ranOut w (q .status)) N9 Ok)
+pub waits : {b : Board} {q : Query} {access : List ℕ} {state : Record} {w : Wait} {d : Decision} → w ≡ waitIn (q .message)
+    → Comes b WaitStatus q access state (cond (ranOut w (q .status)) N9 Ok)
     → d ≡ record { outcome = cond (ranOut w (q .status)) N9 Ok; checks = checksOf w (q .status); micros = microsOf w (q .status) }
-    → d ≡ decisionOn WaitStatus q (firstOf Ok (typeTable (viewWith access (rowIn q) state) q WaitStatus))
+    → d ≡ decisionOn WaitStatus q (firstOf Ok (typeTable (viewWith b access (rowIn b q) state) q WaitStatus))
 unfolding decisionOn
 waits {q} {w = w} here comes is = is ∙ rw (comes .is, ended (ranOut w (q .status)), here)

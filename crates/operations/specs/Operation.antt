@@ -10,7 +10,7 @@ use Rattle.rules.specs.declared.Outcome.{Outcome}
 use Rattle.rules.specs.declared.Outcome.the-variants.{N4, N5, N6, N7, N8, Ok}
 use Rattle.rules.specs.declared.Record.{Record}
 use Rattle.rules.specs.Table.{Line, _gives_, firstOf}
-use Rattle.rules.specs.Board.{ours, rowOf}
+use Rattle.rules.specs.Board.{Board, rowOf}
 use Rattle.rules.specs.Message.{Query, query, subjectOf, waitIn}
 use Rattle.rules.specs.Wait.{checksOf, microsOf}
 use Rattle.rules.specs.Outcome.{View, tooShort, notOffered, offBoard, hasRight, operandsGood, byWords, carriedOut}
@@ -35,22 +35,22 @@ abbrev pub asked : ℕ → List ℕ → List ℕ → Query
 asked channel message status = query channel message status 0
 
 -- the row of the processor whose record the call works on
-abbrev pub rowIn : Query → ℕ
-rowIn q = rowOf ours (subjectOf q)
+abbrev pub rowIn : Board → Query → ℕ
+rowIn b q = rowOf b (subjectOf q)
 
 -- the record memory after a message of type k with this outcome: OK has its effect, and a refusal leaves the memory
-unfoldable pub memoryAfter : Kind → Outcome → List ℕ → Query → List ℕ
-memoryAfter k o memory q =
-    cond (carriedOut o) (withRecord memory (rowIn q) (effectOf k q (recordAt memory (rowIn q)))) memory
+unfoldable pub memoryAfter : Board → Kind → Outcome → List ℕ → Query → List ℕ
+memoryAfter b k o memory q =
+    cond (carriedOut o) (withRecord b memory (rowIn b q) (effectOf k q (recordAt b memory (rowIn b q)))) memory
 
 -- what a function promises that carries out messages of type k: the outcome, and the record memory afterwards
-pub record Carries (k : Kind) (access memory : List ℕ) (q : Query) (memory′ : List ℕ) (r : Outcome) : Type 0 where
-  pub outcome : r ≡ firstOf Ok (typeTable (viewIn access memory (rowIn q)) q k)
-  pub records : memory′ ≡ memoryAfter k r memory q
+pub record Carries (b : Board) (k : Kind) (access memory : List ℕ) (q : Query) (memory′ : List ℕ) (r : Outcome) : Type 0 where
+  pub outcome : r ≡ firstOf Ok (typeTable (viewIn b access memory (rowIn b q)) q k)
+  pub records : memory′ ≡ memoryAfter b k r memory q
 
 -- of a type whose right is the controller's, and that asks for no entry: whatever the access memory holds
-abbrev pub CarriesByController : Kind → List ℕ → Query → List ℕ → Outcome → Type 0
-CarriesByController k memory q memory′ r = (access : List ℕ) → Carries k access memory q memory′ r
+abbrev pub CarriesByController : Board → Kind → List ℕ → Query → List ℕ → Outcome → Type 0
+CarriesByController b k memory q memory′ r = (access : List ℕ) → Carries b k access memory q memory′ r
 
 -- authenticated boot: whoever sends it
 abbrev pub RefusesBoot : List ℕ → Outcome → Type 0
@@ -58,8 +58,8 @@ RefusesBoot message r =
     (v : View) (channel : ℕ) (status : List ℕ) → r ≡ firstOf Ok (typeTable v (asked channel message status) AuthBoot)
 
 -- get status: whatever the record
-abbrev pub ReadsStatus : List ℕ → Query → Outcome → Type 0
-ReadsStatus access q r = (state : Record) → r ≡ firstOf Ok (typeTable (viewWith access (rowIn q) state) q GetStatus)
+abbrev pub ReadsStatus : Board → List ℕ → Query → Outcome → Type 0
+ReadsStatus b access q r = (state : Record) → r ≡ firstOf Ok (typeTable (viewWith b access (rowIn b q) state) q GetStatus)
 
 -- an outcome with what a wait reports: the checks and the microseconds where one ended, else 0 and 0
 unfoldable pub decisionOn : Kind → Query → Outcome → Decision
@@ -71,6 +71,6 @@ decisionOn k q o =
     }
 
 -- wait status: whatever the record
-abbrev pub WaitsForStatus : List ℕ → Query → Decision → Type 0
-WaitsForStatus access q r =
-    (state : Record) → r ≡ decisionOn WaitStatus q (firstOf Ok (typeTable (viewWith access (rowIn q) state) q WaitStatus))
+abbrev pub WaitsForStatus : Board → List ℕ → Query → Decision → Type 0
+WaitsForStatus b access q r =
+    (state : Record) → r ≡ decisionOn WaitStatus q (firstOf Ok (typeTable (viewWith b access (rowIn b q) state) q WaitStatus))

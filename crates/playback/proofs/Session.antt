@@ -22,18 +22,18 @@ rest-long out used h = simp (length-take, length-drop) (omega arith)
 
 -- ---- fields in their order
 
-module _ (buffer : List ℕ) (m : Memories) (at : ℕ) (access records words : List ℕ) (stand : ℕ) (reached : Reached buffer m at (memories access records words stand)) where
-  pub reached-same : (at′ stand′ : ℕ) → at′ ≡ at → stand′ ≡ stand → Reached buffer m at′ (memories access records words stand′)
+module _ (buffer : List ℕ) (m : Memories) (at : ℕ) (board access records words : List ℕ) (stand : ℕ) (reached : Reached buffer m at (memories board access records words stand)) where
+  pub reached-same : (at′ stand′ : ℕ) → at′ ≡ at → stand′ ≡ stand → Reached buffer m at′ (memories board access records words stand′)
   reached-same at′ stand′ p q = rw (p, q) reached
 
-  pub reached-next : (tag end : ℕ) (line line′ access′ records′ words′ : List ℕ) (k stand′ : ℕ) → foundAt buffer at ≡ Whole tag (end - (at + 3))
+  pub reached-next : (tag end : ℕ) (line line′ board′ access′ records′ words′ : List ℕ) (k stand′ : ℕ) → foundAt buffer at ≡ Whole tag (end - (at + 3))
       → at + 3 ≤ end → 96 ≤ length line
-      → PlayedField tag stand (take (end - (at + 3)) (drop (at + 3) buffer)) access records words line access′ records′ words′ line′ k stand′
-      → Reached buffer m end (memories access′ records′ words′ stand′)
-  reached-next tag end line line′ access′ records′ words′ k stand′ found body long played =
+      → PlayedField tag stand (take (end - (at + 3)) (drop (at + 3) buffer)) board access records words line board′ access′ records′ words′ line′ k stand′
+      → Reached buffer m end (memories board′ access′ records′ words′ stand′)
+  reached-next tag end line line′ board′ access′ records′ words′ k stand′ found body long played =
       let there : at + 3 + (end - (at + 3)) ≡ end = omega arith in
-      subst (λ (n : ℕ). Reached buffer m n (memories access′ records′ words′ stand′)) there
-      (behind tag (end - (at + 3)) line line′ access′ records′ words′ k stand′ reached found (le-leb 96 (length line) long) played)
+      subst (λ (n : ℕ). Reached buffer m n (memories board′ access′ records′ words′ stand′)) there
+      (behind tag (end - (at + 3)) line line′ board′ access′ records′ words′ k stand′ reached found (le-leb 96 (length line) long) played)
 
 -- ---- what is left over
 

@@ -10,25 +10,27 @@ use Rattle.texts.specs.Texts.{hasRoom}
 use Rattle.playing.specs.ByTag.{PlayedField}
 use Rattle.steps.specs.Next.{waits, NoneAt}
 
--- the two memories, the status words, and how many of these stand
+-- the three memories, the status words, and how many of these stand
 pub record Memories : Type 0 where
+  pub board : List ℕ
   pub access : List ℕ
   pub records : List ℕ
   pub words : List ℕ
   pub stand : ℕ
 
-abbrev pub memories : List ℕ → List ℕ → List ℕ → ℕ → Memories
-memories access records words stand = record { access = access; records = records; words = words; stand = stand }
+abbrev pub memories : List ℕ → List ℕ → List ℕ → List ℕ → ℕ → Memories
+memories board access records words stand =
+    record { board = board; access = access; records = records; words = words; stand = stand }
 
 -- a buffer's fields carried out in their order: none, up to the start, or one more, behind those before it and with room for its line
 pub data Reached : List ℕ → Memories → ℕ → Memories → Type 0 where
   start : {buffer : List ℕ} {m : Memories} → Reached buffer m 0 m
-  behind : {buffer : List ℕ} {m : Memories} {at : ℕ} {m′ : Memories} (tag n : ℕ) (line line′ access records words : List ℕ) (k stand : ℕ)
+  behind : {buffer : List ℕ} {m : Memories} {at : ℕ} {m′ : Memories} (tag n : ℕ) (line line′ board access records words : List ℕ) (k stand : ℕ)
       → Reached buffer m at m′
       → foundAt buffer at ≡ Whole tag n
       → hasRoom line ≡ true
-      → PlayedField tag (m′ .stand) (take n (drop (at + 3) buffer)) (m′ .access) (m′ .records) (m′ .words) line access records words line′ k stand
-      → Reached buffer m (at + 3 + n) (memories access records words stand)
+      → PlayedField tag (m′ .stand) (take n (drop (at + 3) buffer)) (m′ .board) (m′ .access) (m′ .records) (m′ .words) line board access records words line′ k stand
+      → Reached buffer m (at + 3 + n) (memories board access records words stand)
 
 -- what the bytes of a buffer leave: the last of them, at the start of the next, and all of them only where they begin with no whole field;
 -- the session goes on only where more may come there

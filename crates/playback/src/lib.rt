@@ -17,8 +17,9 @@ ghost use Rattle.playback.specs.Session.{LeftOver, memories, Reached};
 // at the end. A bad record and a write that fails end the session: it goes on only where no whole field
 // is left.
 fn play(
-    access: &mut [u16; 17],
-    records: &mut [u32; 20],
+    board: &mut [u8; 576],
+    access: &mut [u16; 129],
+    records: &mut [u32; 160],
     words: &mut [u32; 255],
     count: u8,
     input: &[u8],
@@ -26,7 +27,7 @@ fn play(
 ) -> Progress
     requires { ⌜ 96 ≤ length (now output) ⌝ }
     ensures { λ r. ⌜ r .at ≤ length (now (input .entry)) ⌝ }
-    ensures { λ r. ⌜ Reached (now (input .entry)) (memories (now (access .entry)) (now (records .entry)) (now (words .entry)) count) (r .at) (memories (now (access .exit)) (now (records .exit)) (now (words .exit)) (r .words)) ⌝ }
+    ensures { λ r. ⌜ Reached (now (input .entry)) (memories (now (board .entry)) (now (access .entry)) (now (records .entry)) (now (words .entry)) count) (r .at) (memories (now (board .exit)) (now (access .exit)) (now (records .exit)) (now (words .exit)) (r .words)) ⌝ }
     ensures { λ r. ⌜ (r .at ≡ 0 → NoneAt (now (input .entry)) 0) ⌝ }
     ensures { λ r. ⌜ (r .goes ≡ true → waits (foundAt (now (input .entry)) (r .at)) ≡ true) ⌝ }
 {
@@ -40,6 +41,7 @@ fn play(
             Next::Field(tag, end, place) => {
                 let start = at + 3;
                 let played = play_field(
+                    board,
                     access,
                     records,
                     words,
@@ -74,20 +76,21 @@ fn within(end: usize) -> usize
 // Plays the bytes of `input` up to `end`, or all of them where it has no more, and moves what is left over
 // to its start.
 pub fn play_held(
-    access: &mut [u16; 17],
-    records: &mut [u32; 20],
+    board: &mut [u8; 576],
+    access: &mut [u16; 129],
+    records: &mut [u32; 160],
     words: &mut [u32; 255],
     count: u8,
     input: &mut [u8; 65536],
     end: usize,
     output: &mut [u8; 65536],
 ) -> Stand
-    ensures { λ r. ⌜ LeftOver (take end (now (input .entry))) (memories (now (access .entry)) (now (records .entry)) (now (words .entry)) count) (now (input .exit)) (memories (now (access .exit)) (now (records .exit)) (now (words .exit)) (r .words)) (r .held) (r .goes) ⌝ }
+    ensures { λ r. ⌜ LeftOver (take end (now (input .entry))) (memories (now (board .entry)) (now (access .entry)) (now (records .entry)) (now (words .entry)) count) (now (input .exit)) (memories (now (board .exit)) (now (access .exit)) (now (records .exit)) (now (words .exit)) (r .words)) (r .held) (r .goes) ⌝ }
     ensures { λ r. ⌜ r .held ≤ 65536 ⌝ }
 {
     let stop = within(end);
     let all = &mut input[..];
-    let played = play(access, records, words, count, &all[..stop], output);
+    let played = play(board, access, records, words, count, &all[..stop], output);
     let at = played.at;
     Stand {
         held: move_down(all, at, stop),

@@ -1,5 +1,6 @@
-// Session recordings: a whole field carried out by its tag. The rules are specs/ByTag.antt, over a list
-// and a message carried out in the crate below.
+// Session recordings: a whole field carried out by its tag. The rules are specs/ByTag.antt, over a board
+// description, a list and a message carried out in the crate below.
+use recording::board_line;
 use recording::list_line;
 use recording::message_line;
 use words::take_words;
@@ -14,8 +15,9 @@ pub struct Played {
 
 // Carries out a whole field, and writes the line that it prints, if any, over the start of `line`.
 pub fn play_field(
-    access: &mut [u16; 17],
-    records: &mut [u32; 20],
+    board: &mut [u8; 576],
+    access: &mut [u16; 129],
+    records: &mut [u32; 160],
     words: &mut [u32; 255],
     count: u8,
     tag: u8,
@@ -23,11 +25,11 @@ pub fn play_field(
     line: &mut [u8],
 ) -> Played
     ensures { λ r. ⌜ r .line ≤ 96 ⌝ }
-    ensures { λ r. ⌜ PlayedField tag count (now (body .entry)) (now (access .entry)) (now (records .entry)) (now (words .entry)) (now (line .entry)) (now (access .exit)) (now (records .exit)) (now (words .exit)) (now (line .exit)) (r .line) (r .words) ⌝ }
+    ensures { λ r. ⌜ PlayedField tag count (now (body .entry)) (now (board .entry)) (now (access .entry)) (now (records .entry)) (now (words .entry)) (now (line .entry)) (now (board .exit)) (now (access .exit)) (now (records .exit)) (now (words .exit)) (now (line .exit)) (r .line) (r .words) ⌝ }
 {
     if tag == 1 {
         return Played {
-            line: list_line(access, body, line),
+            line: list_line(board, access, body, line),
             words: count,
         };
     }
@@ -37,10 +39,16 @@ pub fn play_field(
             words: take_words(body, words) as u8,
         };
     }
+    if tag == 6 {
+        return Played {
+            line: board_line(board, access, body, line),
+            words: count,
+        };
+    }
     let status = &words[..];
     let standing = count as usize;
     Played {
-        line: message_line(access, records, body, &status[..standing], line),
+        line: message_line(board, access, records, body, &status[..standing], line),
         words: count,
     }
 }

@@ -1,20 +1,44 @@
-// The manager for firmware in C: two functions over memory that the caller lends. include/pomrozek.h
-// declares them and says who owns what. Numbers are document 01's: 0 for OK or accepted.
+// The manager for firmware in C: four functions over memory that the caller lends. include/pomrozek.h
+// declares them and says who owns what. Numbers are the papers': 0 for OK or accepted.
 ghost use mathlib.Core.Path.{_≡_};
 ghost use Prim.Native.Nat.{_≤_};
+ghost use Rattle.rules.specs.Description.{ours};
+ghost use Rattle.board.specs.Memory.{boardIn, boardBytes};
 ghost use Rattle.manager.specs.Calls.{lending};
-ghost use Rattle.pomrozek.specs.Exported.{ExportedList, ExportedMessage};
+ghost use Rattle.pomrozek.specs.Exported.{ExportedBoard, ExportedList, ExportedMessage};
 use manager::message;
+use manager::offer_board;
 use manager::offer_list;
+use manager::start;
 use numbers::outcome_number;
 use numbers::verdict_number;
 
+// Fills the board memory with document 01's board, which stands until a description is taken.
+#[no_mangle]
+pub extern "C" fn pomrozek_start(board: &mut [u8; 576])
+    ensures { λ _. ⌜ now (board .exit) ≡ boardBytes ours ⌝ }
+{
+    start(board)
+}
+
+// Offers a board description and gives the verdict's number: 0 taken, 1 for A1, 200 + k for Dk.
+#[no_mangle]
+pub extern "C" fn pomrozek_board(
+    board: &mut [u8; 576],
+    access: &[u16; 129],
+    description: &[u8],
+) -> u32
+    ensures { λ r. ⌜ ExportedBoard (now (board .entry)) (now (access .entry)) (now (description .entry)) (now (board .exit)) r ⌝ }
+{
+    verdict_number(offer_board(board, access, description))
+}
+
 // Offers an access list and gives the verdict's number: 0 accepted, k for Ak.
 #[no_mangle]
-pub extern "C" fn pomrozek_list(access: &mut [u16; 17], list: &[u8]) -> u32
-    ensures { λ r. ⌜ ExportedList (now (access .entry)) (now (list .entry)) (now (access .exit)) r ⌝ }
+pub extern "C" fn pomrozek_list(board: &[u8; 576], access: &mut [u16; 129], list: &[u8]) -> u32
+    ensures { λ r. ⌜ ExportedList (boardIn (now (board .entry))) (now (access .entry)) (now (list .entry)) (now (access .exit)) r ⌝ }
 {
-    verdict_number(offer_list(access, list))
+    verdict_number(offer_list(board, access, list))
 }
 
 // The number of bytes written, which is at most 29, as the width of the report's words.
@@ -29,17 +53,18 @@ fn narrow(written: usize) -> u32
 // the microseconds and the number of bytes written go to `report`.
 #[no_mangle]
 pub extern "C" fn pomrozek_message(
-    access: &[u16; 17],
-    records: &mut [u32; 20],
+    board: &[u8; 576],
+    access: &[u16; 129],
+    records: &mut [u32; 160],
     channel: u8,
     request: &[u8],
     status: &[u32],
     answer: &mut [u8],
     report: &mut [u32; 3],
 ) -> u32
-    ensures { λ r. ⌜ ExportedMessage (now (access .entry)) (now (records .entry)) (lending channel (now (request .entry)) (now (status .entry)) (now (answer .entry))) (now (records .exit)) (now (answer .exit)) (now (report .exit)) r ⌝ }
+    ensures { λ r. ⌜ ExportedMessage (boardIn (now (board .entry))) (now (access .entry)) (now (records .entry)) (lending channel (now (request .entry)) (now (status .entry)) (now (answer .entry))) (now (records .exit)) (now (answer .exit)) (now (report .exit)) r ⌝ }
 {
-    let told = message(access, records, channel, request, status, answer);
+    let told = message(board, access, records, channel, request, status, answer);
     let words = &mut report[..];
     words[0] = told.checks;
     words[1] = told.micros;

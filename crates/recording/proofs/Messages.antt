@@ -1,4 +1,4 @@
--- A field carried out, from what the two calls give: with room for a line, and without. Assumes nothing.
+-- A field carried out, from what the calls give: with room for a line, and without. Assumes nothing.
 use Prim.Native.Nat.{ℕ, _≤_, _<_}
 use mathlib.Core.Path.{_≡_, refl, ap, ap₂, _∙_, subst⁻¹}
 use mathlib.Core.Bool.{_&&_}
@@ -10,17 +10,18 @@ use lib.Dec.{leb}
 use borrow.Author.Tests.{lt-leb, le-leb}
 use Rattle.rules.specs.declared.Report.{Report}
 use Rattle.rules.specs.declared.Verdict.{Verdict}
+use Rattle.rules.specs.Board.{Board}
 use Rattle.rules.specs.Message.{Query}
 use Rattle.rules.specs.Answer.{bufferAfter, reportOf}
 use Rattle.rules.specs.State.{State}
 use Rattle.rules.specs.Call.{answerTo, Lent}
 use Rattle.rules.proofs.Tests.{clash}
-use Rattle.manager.specs.Calls.{ListCall, MessageCall}
-use Rattle.manager.proofs.TwoCalls.{written-short}
-use Rattle.texts.specs.Texts.{listLine, hasRoom, printed, Printed}
+use Rattle.manager.specs.Calls.{MessageCall}
+use Rattle.manager.proofs.EachCall.{written-short}
+use Rattle.texts.specs.Texts.{offerLine, hasRoom, printed, Printed}
 use Rattle.texts.proofs.Printing.{nothing-printed}
 use Rattle.lines.specs.Lines.{messageLine}
-use Rattle.recording.specs.Played.{PlayedList, lentIn, PlayedMessage}
+use Rattle.recording.specs.Played.{PlayedOffer, lentIn, PlayedMessage}
 
 -- the line of what a message call reports and leaves at the start of its buffer
 line-is : (s : State) (q : Query) (told : Report) (held buffer : List ℕ)
@@ -34,38 +35,38 @@ line-is s q told held buffer same wrote =
     (ap₂ take (ap (λ (r : Report). r .written) same) wrote ∙ take-append-seam bytes (drop (length bytes) held))
 
 -- at most 29 bytes are written
-pub written-few : (access memory : List ℕ) (lent : Lent) (memory′ buffer : List ℕ) (told : Report)
-    → MessageCall access memory lent memory′ buffer told → told .written ≤ 29
-written-few access memory lent memory′ buffer told call =
+pub written-few : (b : Board) (access memory : List ℕ) (lent : Lent) (memory′ buffer : List ℕ) (told : Report)
+    → MessageCall b access memory lent memory′ buffer told → told .written ≤ 29
+written-few b access memory lent memory′ buffer told call =
     subst⁻¹ (λ (r : Report). r .written ≤ 29) (call .report) (written-short _ _)
 
-module _ (access body line : List ℕ) where
-  pub list-refused : length line < 96 → PlayedList access body line access line 0
-  list-refused h =
+module _ (word : List ℕ) (verdict : Verdict) (held after line : List ℕ) where
+  pub offer-refused : length line < 96 → PlayedOffer word verdict held after line held line 0
+  offer-refused h =
       let gone = lt-leb 96 (length line) h in
       record { prints = nothing-printed line _ _ gone; memory = rw gone }
 
-  pub list-played : (access′ line′ : List ℕ) (verdict : Verdict) (n : ℕ) → 96 ≤ length line
-      → ListCall access body access′ verdict
-      → Printed line (printed (hasRoom line) (listLine verdict)) line′ n
-      → PlayedList access body line access′ line′ n
-  list-played access′ line′ verdict n h call shown =
+  pub offer-played : (held′ line′ : List ℕ) (told : Verdict) (n : ℕ) → 96 ≤ length line
+      → told ≡ verdict → held′ ≡ after
+      → Printed line (printed (hasRoom line) (offerLine word told)) line′ n
+      → PlayedOffer word verdict held after line held′ line′ n
+  offer-played held′ line′ told n h same left shown =
       let room = le-leb 96 (length line) h in
-      record { prints = rw (call .verdict) at shown; memory = rw room (call .memory) }
+      record { prints = rw same at shown; memory = rw room left }
 
-module _ (access memory body words line : List ℕ) where
-  pub message-refused : length line < 96 → PlayedMessage access memory body words line memory line 0
+module _ (b : Board) (access memory body words line : List ℕ) where
+  pub message-refused : length line < 96 → PlayedMessage b access memory body words line memory line 0
   message-refused h =
       let gone = lt-leb 96 (length line) h in
       record { prints = nothing-printed line _ _ gone; records = rw gone; kept = λ _. refl }
 
   pub message-played : (memory′ line′ buffer : List ℕ) (told : Report) (n : ℕ) → 96 ≤ length line
-      → MessageCall access memory (lentIn body words) memory′ buffer told
+      → MessageCall b access memory (lentIn body words) memory′ buffer told
       → Printed line (printed (hasRoom line && leb (length (take (told .written) buffer)) 29) (messageLine told (take (told .written) buffer))) line′ n
-      → PlayedMessage access memory body words line memory′ line′ n
+      → PlayedMessage b access memory body words line memory′ line′ n
   message-played memory′ line′ buffer told n h call shown =
       let room = le-leb 96 (length line) h in
-      let wrote = written-few access memory (lentIn body words) memory′ buffer told call in
+      let wrote = written-few b access memory (lentIn body words) memory′ buffer told call in
       let short : length (take (told .written) buffer) ≤ 29 = rw length-take (omega arith) in
       let fits = le-leb (length (take (told .written) buffer)) 29 short in
       let text = line-is _ _ told (replicate 29 0) buffer (call .report) (call .buffer) in

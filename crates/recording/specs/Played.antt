@@ -5,41 +5,51 @@ use mathlib.Core.Path.{_≡_}
 use mathlib.Core.Bool.{false, cond}
 use mathlib.Core.List.{List}
 use lib.ListN.{drop, replicate}
+use Rattle.rules.specs.declared.Verdict.{Verdict}
 use Rattle.rules.specs.Bytes.{byteAt}
-use Rattle.rules.specs.Board.{ours}
+use Rattle.rules.specs.Board.{Board}
+use Rattle.rules.specs.Description.{boardVerdict}
 use Rattle.rules.specs.AccessList.{verdictOf}
 use Rattle.rules.specs.State.{Records}
 use Rattle.rules.specs.Call.{Answer, answerTo, Lent, queryOf, message, next}
 use Rattle.access.specs.Memory.{listedIn}
+use Rattle.boards.specs.Filled.{boardAfter}
 use Rattle.loading.specs.Loaded.{accessAfter}
 use Rattle.records.specs.Memory.{recordsIn, stateIn}
 use Rattle.manager.specs.Calls.{lending}
-use Rattle.texts.specs.Texts.{listLine, hasRoom, printed, Printed}
+use Rattle.texts.specs.Texts.{offerLine, listWord, boardWord, hasRoom, printed, Printed}
 use Rattle.lines.specs.Lines.{messageLine}
 
--- a list field: its body is offered
-abbrev pub listText : List ℕ → List ℕ → List ℕ
-listText access body = listLine (verdictOf ours (listedIn access) body)
+-- an offer: its line begins with a word, and what the memory holds that it may change is `after`
+pub record PlayedOffer (word : List ℕ) (verdict : Verdict) (held after line held′ line′ : List ℕ) (n : ℕ) : Type 0 where
+  pub prints : Printed line (printed (hasRoom line) (offerLine word verdict)) line′ n
+  pub memory : held′ ≡ cond (hasRoom line) after held
 
-pub record PlayedList (access body line access′ line′ : List ℕ) (n : ℕ) : Type 0 where
-  pub prints : Printed line (printed (hasRoom line) (listText access body)) line′ n
-  pub memory : access′ ≡ cond (hasRoom line) (accessAfter access body) access
+-- a board field: its body is offered; the access memory says whether a list was accepted
+abbrev pub PlayedBoard : List ℕ → List ℕ → List ℕ → List ℕ → List ℕ → List ℕ → ℕ → Type 0
+PlayedBoard board access body line board′ line′ n =
+    PlayedOffer boardWord (boardVerdict (listedIn access) body) board (boardAfter board (listedIn access) body) line board′ line′ n
+
+-- a list field: its body is offered
+abbrev pub PlayedList : Board → List ℕ → List ℕ → List ℕ → List ℕ → List ℕ → ℕ → Type 0
+PlayedList b access body line access′ line′ n =
+    PlayedOffer listWord (verdictOf b (listedIn access) body) access (accessAfter b access body) line access′ line′ n
 
 -- a message field: its first byte is the channel host, the rest the message; the answer buffer has 29 bytes
 abbrev pub lentIn : List ℕ → List ℕ → Lent
 lentIn body words = lending (byteAt body 0) (drop 1 body) words (replicate 29 0)
 
-abbrev pub answerIn : List ℕ → List ℕ → List ℕ → List ℕ → Answer
-answerIn access memory body words = answerTo (stateIn access memory) (queryOf (lentIn body words))
+abbrev pub answerIn : Board → List ℕ → List ℕ → List ℕ → List ℕ → Answer
+answerIn b access memory body words = answerTo (stateIn b access memory) (queryOf (lentIn body words))
 
-abbrev pub messageText : List ℕ → List ℕ → List ℕ → List ℕ → List ℕ
-messageText access memory body words =
-    messageLine (answerIn access memory body words .report) (answerIn access memory body words .bytes)
+abbrev pub messageText : Board → List ℕ → List ℕ → List ℕ → List ℕ → List ℕ
+messageText b access memory body words =
+    messageLine (answerIn b access memory body words .report) (answerIn b access memory body words .bytes)
 
-abbrev pub recordsAfter : List ℕ → List ℕ → List ℕ → List ℕ → Records
-recordsAfter access memory body words = next (stateIn access memory) (message (lentIn body words)) .records
+abbrev pub recordsAfter : Board → List ℕ → List ℕ → List ℕ → List ℕ → Records
+recordsAfter b access memory body words = next (stateIn b access memory) (message (lentIn body words)) .records
 
-pub record PlayedMessage (access memory body words line memory′ line′ : List ℕ) (n : ℕ) : Type 0 where
-  pub prints : Printed line (printed (hasRoom line) (messageText access memory body words)) line′ n
-  pub records : recordsIn memory′ ≡ cond (hasRoom line) (recordsAfter access memory body words) (recordsIn memory)
+pub record PlayedMessage (b : Board) (access memory body words line memory′ line′ : List ℕ) (n : ℕ) : Type 0 where
+  pub prints : Printed line (printed (hasRoom line) (messageText b access memory body words)) line′ n
+  pub records : recordsIn memory′ ≡ cond (hasRoom line) (recordsAfter b access memory body words) (recordsIn memory)
   pub kept : hasRoom line ≡ false → memory′ ≡ memory

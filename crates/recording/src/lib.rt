@@ -2,23 +2,36 @@
 // specs/Played.antt, over the fields and the lines of the crates below.
 ghost use mathlib.Core.Path.{_≡_};
 ghost use lib.ListN.{drop};
-ghost use Rattle.recording.specs.Played.{PlayedList, PlayedMessage};
+ghost use Rattle.board.specs.Memory.{boardIn};
+ghost use Rattle.recording.specs.Played.{PlayedBoard, PlayedList, PlayedMessage};
 use lines::print_message;
 use manager::message;
+use manager::offer_board;
 use manager::offer_list;
 use texts::ROOM;
+use texts::print_board;
 use texts::print_list;
 use wire::byte_at;
 
-// Carries out a list field, and writes its line over the start of `line`. Gives the line's length.
+// Carries out a board field, and writes its line over the start of `line`. Gives the line's length.
 // Where there is no room for a line, nothing is carried out.
-pub fn list_line(access: &mut [u16; 17], body: &[u8], line: &mut [u8]) -> usize
-    ensures { λ r. ⌜ PlayedList (now (access .entry)) (now (body .entry)) (now (line .entry)) (now (access .exit)) (now (line .exit)) r ⌝ }
+pub fn board_line(board: &mut [u8; 576], access: &[u16; 129], body: &[u8], line: &mut [u8]) -> usize
+    ensures { λ r. ⌜ PlayedBoard (now (board .entry)) (now (access .entry)) (now (body .entry)) (now (line .entry)) (now (board .exit)) (now (line .exit)) r ⌝ }
 {
     if line.len() < ROOM {
         return 0;
     }
-    print_list(line, offer_list(access, body))
+    print_board(line, offer_board(board, access, body))
+}
+
+// Carries out a list field in the same way.
+pub fn list_line(board: &[u8; 576], access: &mut [u16; 129], body: &[u8], line: &mut [u8]) -> usize
+    ensures { λ r. ⌜ PlayedList (boardIn (now (board .entry))) (now (access .entry)) (now (body .entry)) (now (line .entry)) (now (access .exit)) (now (line .exit)) r ⌝ }
+{
+    if line.len() < ROOM {
+        return 0;
+    }
+    print_list(line, offer_list(board, access, body))
 }
 
 // All of a field's body but its first byte.
@@ -31,16 +44,16 @@ fn after_first(body: &[u8]) -> &[u8]
     &body[1..]
 }
 
-// Carries out a message field with these status words, and writes its line over the start of `line`.
-// Gives the line's length. Where there is no room for a line, nothing is carried out.
+// Carries out a message field with these status words, in the same way.
 pub fn message_line(
-    access: &[u16; 17],
-    records: &mut [u32; 20],
+    board: &[u8; 576],
+    access: &[u16; 129],
+    records: &mut [u32; 160],
     body: &[u8],
     status: &[u32],
     line: &mut [u8],
 ) -> usize
-    ensures { λ r. ⌜ PlayedMessage (now (access .entry)) (now (records .entry)) (now (body .entry)) (now (status .entry)) (now (line .entry)) (now (records .exit)) (now (line .exit)) r ⌝ }
+    ensures { λ r. ⌜ PlayedMessage (boardIn (now (board .entry))) (now (access .entry)) (now (records .entry)) (now (body .entry)) (now (status .entry)) (now (line .entry)) (now (records .exit)) (now (line .exit)) r ⌝ }
 {
     if line.len() < ROOM {
         return 0;
@@ -48,6 +61,7 @@ pub fn message_line(
     let mut answer = [0u8; 29];
     let channel = byte_at(body, 0);
     let told = message(
+        board,
         access,
         records,
         channel,

@@ -1,11 +1,11 @@
 -- The laws of the lent memory: a record that was stored is read back, at its row and at no other, and its control word at its home and at
--- no other; what a call sees of the processor that it names is what stands at its row and home. Assumes nothing.
+-- no other; what a call sees of the processor that it names is what stands at its row and home. For any board. Assumes nothing.
 use Prim.Native.Nat.{ℕ, zero, suc, _+_, _*_, _≤_, _<_}
 use mathlib.Core.Path.{_≡_, refl, sym, subst⁻¹, ap, ap₂, _∙_}
 use mathlib.Core.Bool.{true, false}
 use mathlib.Core.List.{List, [], _∷_}
 use mathlib.Core.Logic.{_⊎_, inl, inr, ⊎-elim}
-use native.Mathlib.Nat.{add-zero, add-suc, suc-add, zero-add, not-suc-le-zero, le-of-suc-le-suc, le-trans}
+use native.Mathlib.Nat.{add-zero, add-suc, suc-add, zero-add, not-suc-le-zero, le-of-suc-le-suc}
 use native.Mathlib.Numerals.{towards-suc}
 use native.Mathlib.Omega.{arith}
 use lib.ListN.{length, getD, set, replicate, length-set, List·getD-eq-default}
@@ -13,59 +13,16 @@ use lib.Seq.{sets, set-getD, getD-set-same, getD-set-other, set-out}
 use lib.Dec.{ltb}
 use borrow.Author.Tests.{lt-ltb, le-ltb, ltb-true, ltb-false}
 use Rattle.rules.specs.declared.Record.{Record}
-use Rattle.rules.specs.Board.{ours, rows, rowOf, homeAt}
+use Rattle.rules.specs.Table.{tableOf}
+use Rattle.rules.specs.Board.{Board, rows, rowOf, homeAt}
 use Rattle.rules.specs.AccessList.{noEntry, noEntries}
-use Rattle.rules.specs.State.{listed, Own, ownOf, joined, freeOwn, fresh, entryOf, recordIn, recordOf, viewOf, putIn}
+use Rattle.rules.specs.State.{listed, Own, Records, ownOf, joined, freeOwn, fresh, entryOf, recordIn, recordOf, viewOf, putIn}
 use Rattle.rules.proofs.Tests.{decide}
-use Rattle.rules.proofs.Rows.{row-within}
-use Rattle.rules.proofs.Homes.{home-within, home-past}
-use Rattle.access.specs.Memory.{byRow, listedIn, entryAt, entriesIn, someList, setupIn}
+use Rattle.rules.proofs.Tables.{table-length, table-here, table-past, table-below, table-set}
+use Rattle.rules.proofs.Homes.{home-small}
+use Rattle.access.specs.Memory.{listedIn, entryAt, entriesIn, someList, setupIn}
 use Rattle.access.proofs.Kept.{listed-some}
 use Rattle.records.specs.Memory.{ownAt, controlPlace, controlAt, recordAt, recordsIn, stateIn, viewIn, withOwn, withControlWord, withRecord}
-
--- ---- rows
-
-module _ {A : Type 0} (f : ℕ → A) (d : A) where
-  -- a row that is there, and one that is not
-  byRow-at : (n i j : ℕ) → j < n → getD (byRow f i n) j d ≡ f (i + j)
-  unfolding byRow
-  byRow-at zero i j h = absurd (not-suc-le-zero h)
-  byRow-at (suc n) i zero h = ap f (sym (add-zero i))
-  byRow-at (suc n) i (suc j) h = byRow-at n (suc i) j (le-of-suc-le-suc h) ∙ ap f (suc-add i j ∙ sym (add-suc i j))
-
-  pub byRow-past : (n i j : ℕ) → n ≤ j → getD (byRow f i n) j d ≡ d
-  unfolding byRow
-  byRow-past zero i j h = refl
-  byRow-past (suc n) i zero h = absurd (not-suc-le-zero h)
-  byRow-past (suc n) i (suc j) h = byRow-past n (suc i) j (le-of-suc-le-suc h)
-
-  -- a row that is there, of all of them
-  pub byRow-here : (n j : ℕ) → j < n → getD (byRow f 0 n) j d ≡ f j
-  byRow-here n j h = byRow-at n 0 j h ∙ ap f (zero-add j)
-
-  -- rows that are one past the last and there alike: the default stands in for what f says of it
-  pub byRow-all : (n j : ℕ) → j ≤ n → f n ≡ d → getD (byRow f 0 n) j d ≡ f j
-  byRow-all n j h past =
-      ⊎-elim (λ t. byRow-here n j (ltb-true j n t))
-      (λ e. let same : j ≡ n = (let q = ltb-false j n e in omega arith) in byRow-past n 0 j (ltb-false j n e) ∙ sym past ∙ ap f (sym same))
-      (decide (ltb j n))
-
--- what g says is what f says, but at one row
-pub byRow-same : {A : Type 0} (f g : ℕ → A) (n i : ℕ) → ((k : ℕ) → i ≤ k → g k ≡ f k) → byRow f i n ≡ byRow g i n
-unfolding byRow
-byRow-same f g zero i e = refl
-byRow-same f g (suc n) i e = λ t. sym (e i (omega arith)) t ∷ byRow-same f g n (suc i) (λ k h. e k (omega arith)) t
-
-pub byRow-set : {A : Type 0} (f g : ℕ → A) (x : A) (n i j : ℕ) → g (i + j) ≡ x → ((k : ℕ) → (k ≡ i + j → ⊥) → g k ≡ f k)
-    → set (byRow f i n) j x ≡ byRow g i n
-unfolding byRow
-byRow-set f g x zero i j here there = refl
-byRow-set f g x (suc n) i zero here there =
-    λ t. (sym here ∙ ap g (add-zero i)) t ∷ byRow-same f g n (suc i) (λ k h. there k (λ e. omega (arith, add-zero i))) t
-byRow-set f g x (suc n) i (suc j) here there =
-    λ t.
-    sym (there i (λ e. omega arith)) t
-    ∷ byRow-set f g x n (suc i) j (ap g (suc-add i j ∙ sym (add-suc i j)) ∙ here) (λ k h. there k (λ e. h (omega arith))) t
 
 -- ---- several words stored in a row
 
@@ -96,58 +53,62 @@ sets-length : (vs l : List ℕ) (i : ℕ) → length (sets l i vs) ≡ length l
 sets-length [] l i = refl
 sets-length (v ∷ vs) l i = sets-length vs (set l i v) (suc i) ∙ length-set l i v
 
-own-is : (m : List ℕ) (row : ℕ) (o : Own) → 5 * row + 4 < length m → withOwn m row o ≡ sets m (5 * row) (wordsOf o)
+own-is : (m : List ℕ) (row : ℕ) (o : Own) → row < rows → withOwn m row o ≡ sets m (4 * row) (wordsOf o)
 unfolding withOwn
-own-is m row o fits = rw (lt-ltb (5 * row + 4) (length m) fits) (simp towards-suc)
+own-is m row o h = rw (lt-ltb row rows h) (simp towards-suc)
 
-own-none : (m : List ℕ) (row : ℕ) (o : Own) → length m ≤ 5 * row + 4 → withOwn m row o ≡ m
+own-none : (m : List ℕ) (row : ℕ) (o : Own) → rows ≤ row → withOwn m row o ≡ m
 unfolding withOwn
-own-none m row o past = rw (le-ltb (5 * row + 4) (length m) past)
+own-none m row o past = rw (le-ltb row rows past)
 
--- a word before them or behind them stays, a control word among others
-own-beside : (m : List ℕ) (row : ℕ) (o : Own) (k : ℕ) → (k < 5 * row) ⊎ (5 * row + 4 ≤ k) → getD (withOwn m row o) k 0 ≡ getD m k 0
+own-length : (m : List ℕ) (row : ℕ) (o : Own) → length (withOwn m row o) ≡ length m
+own-length m row o =
+    ⊎-elim (λ t. ap length (own-is m row o (ltb-true row rows t)) ∙ sets-length (wordsOf o) m (4 * row))
+    (λ f. ap length (own-none m row o (ltb-false row rows f)))
+    (decide (ltb row rows))
+
+-- a word before them or behind them stays
+own-beside : (m : List ℕ) (row : ℕ) (o : Own) (k : ℕ) → (k < 4 * row) ⊎ (4 * row + 4 ≤ k) → getD (withOwn m row o) k 0 ≡ getD m k 0
 own-beside m row o k out =
     ⊎-elim
-    (λ t. ap (λ (l : List ℕ). getD l k 0) (own-is m row o (ltb-true _ _ t)) ∙ sets-other (wordsOf o) m (5 * row) k out)
+    (λ t. ap (λ (l : List ℕ). getD l k 0) (own-is m row o (ltb-true _ _ t)) ∙ sets-other (wordsOf o) m (4 * row) k out)
     (λ f. ap (λ (l : List ℕ). getD l k 0) (own-none m row o (ltb-false _ _ f)))
-    (decide (ltb (5 * row + 4) (length m)))
+    (decide (ltb row rows))
 
+-- the control words stand behind all rows
 own-keeps-control : (m : List ℕ) (row : ℕ) (o : Own) (home : ℕ) → controlAt (withOwn m row o) home ≡ controlAt m home
 own-keeps-control m row o home =
-    own-beside m row o (controlPlace home)
-    (⊎-elim (λ t. inl (let q = ltb-true home row t in omega arith)) (λ f. inr (let q = ltb-false home row f in omega arith))
-    (decide (ltb home row)))
+    ⊎-elim (λ t. own-beside m row o (controlPlace home) (inr (let q = ltb-true row rows t in omega arith)))
+    (λ f. ap (λ (l : List ℕ). controlAt l home) (own-none m row o (ltb-false row rows f)))
+    (decide (ltb row rows))
 
 -- put where it stands it changes nothing
 own-kept : (m : List ℕ) (row : ℕ) → withOwn m row (ownAt m row) ≡ m
 unfolding withOwn
 own-kept m row =
     ⊎-elim
-    (λ (t : ltb (5 * row + 4) (length m) ≡ true).
-    rw t (rw (set-getD m (5 * row) 0, set-getD m (5 * row + 1) 0, set-getD m (5 * row + 2) 0, set-getD m (5 * row + 3) 0)))
-    (λ (f : ltb (5 * row + 4) (length m) ≡ false). rw f)
-    (decide (ltb (5 * row + 4) (length m)))
+    (λ (t : ltb row rows ≡ true).
+    rw t (rw (set-getD m (4 * row) 0, set-getD m (4 * row + 1) 0, set-getD m (4 * row + 2) 0, set-getD m (4 * row + 3) 0)))
+    (λ (f : ltb row rows ≡ false). rw f)
+    (decide (ltb row rows))
 
 module _ (m : List ℕ) (row : ℕ) (o : Own) where
-  module _ (fits : 5 * row + 4 < length m) where
-    at-row : (j : ℕ) → j < 4 → getD (withOwn m row o) (5 * row + j) 0 ≡ getD (wordsOf o) j 0
-    at-row j h = ap (λ (l : List ℕ). getD l (5 * row + j) 0) (own-is m row o fits) ∙ sets-at (wordsOf o) m (5 * row) j (omega arith) h
+  module _ (size : length m ≡ 160) (h : row < rows) where
+    at-row : (j : ℕ) → j < 4 → getD (withOwn m row o) (4 * row + j) 0 ≡ getD (wordsOf o) j 0
+    at-row j k = ap (λ (l : List ℕ). getD l (4 * row + j) 0) (own-is m row o h) ∙ sets-at (wordsOf o) m (4 * row) j (omega arith) k
 
     own-same : ownAt (withOwn m row o) row ≡ o
     own-same =
         λ t.
         record {
-          controller = (ap (λ (k : ℕ). getD (withOwn m row o) k 0) (sym (add-zero (5 * row))) ∙ at-row 0 (omega arith)) t;
+          controller = (ap (λ (k : ℕ). getD (withOwn m row o) k 0) (sym (add-zero (4 * row))) ∙ at-row 0 (omega arith)) t;
           low = at-row 1 (omega arith) t;
           high = at-row 2 (omega arith) t;
           config = at-row 3 (omega arith) t;
         }
 
-    own-length : length (withOwn m row o) ≡ length m
-    own-length = ap length (own-is m row o fits) ∙ sets-length (wordsOf o) m (5 * row)
-
   -- the words of another row stand before it or behind it
-  beside : (k j : ℕ) → (k ≡ row → ⊥) → j < 4 → (5 * k + j < 5 * row) ⊎ (5 * row + 4 ≤ 5 * k + j)
+  beside : (k j : ℕ) → (k ≡ row → ⊥) → j < 4 → (4 * k + j < 4 * row) ⊎ (4 * row + 4 ≤ 4 * k + j)
   beside k j apart h =
       ⊎-elim (λ t. inl (let q = ltb-true k row t in omega arith))
       (λ f.
@@ -157,17 +118,17 @@ module _ (m : List ℕ) (row : ℕ) (o : Own) where
       (decide (ltb row k)))
       (decide (ltb k row))
 
-  own-off : (k j : ℕ) → (k ≡ row → ⊥) → j < 4 → getD (withOwn m row o) (5 * k + j) 0 ≡ getD m (5 * k + j) 0
-  own-off k j apart h = own-beside m row o (5 * k + j) (beside k j apart h)
+  own-off : (k j : ℕ) → (k ≡ row → ⊥) → j < 4 → getD (withOwn m row o) (4 * k + j) 0 ≡ getD m (4 * k + j) 0
+  own-off k j apart h = own-beside m row o (4 * k + j) (beside k j apart h)
 
   own-other : (k : ℕ) → (k ≡ row → ⊥) → ownAt (withOwn m row o) k ≡ ownAt m k
   own-other k apart =
       λ t.
       record {
         controller =
-            (ap (λ (n : ℕ). getD (withOwn m row o) n 0) (sym (add-zero (5 * k)))
+            (ap (λ (n : ℕ). getD (withOwn m row o) n 0) (sym (add-zero (4 * k)))
             ∙ own-off k 0 apart (omega arith)
-            ∙ ap (λ (n : ℕ). getD m n 0) (add-zero (5 * k))) t;
+            ∙ ap (λ (n : ℕ). getD m n 0) (add-zero (4 * k))) t;
         low = own-off k 1 apart (omega arith) t;
         high = own-off k 2 apart (omega arith) t;
         config = own-off k 3 apart (omega arith) t;
@@ -175,131 +136,154 @@ module _ (m : List ℕ) (row : ℕ) (o : Own) where
 
 -- ---- a control word stored at its home
 
--- no word that is a processor's own is a control word
-own-not-control : (row home j : ℕ) → j < 4 → 5 * row + j ≡ controlPlace home → ⊥
-own-not-control row home j h e = omega arith
+module _ (m : List ℕ) (home word k : ℕ) where
+  -- a row's own words stand before all control words
+  control-keeps-own : k < rows → ownAt (withControlWord m home word) k ≡ ownAt m k
+  control-keeps-own h =
+      λ t.
+      record {
+        controller = getD-set-other m (controlPlace home) (4 * k) word 0 (λ e. omega arith) t;
+        low = getD-set-other m (controlPlace home) (4 * k + 1) word 0 (λ e. omega arith) t;
+        high = getD-set-other m (controlPlace home) (4 * k + 2) word 0 (λ e. omega arith) t;
+        config = getD-set-other m (controlPlace home) (4 * k + 3) word 0 (λ e. omega arith) t;
+      }
 
-control-keeps-own : (m : List ℕ) (home word k : ℕ) → ownAt (withControlWord m home word) k ≡ ownAt m k
-control-keeps-own m home word k =
-    λ t.
-    record {
-      controller =
-          getD-set-other m (controlPlace home) (5 * k) word 0 (λ e. own-not-control k home 0 (omega arith) (add-zero (5 * k) ∙ e)) t;
-      low = getD-set-other m (controlPlace home) (5 * k + 1) word 0 (own-not-control k home 1 (omega arith)) t;
-      high = getD-set-other m (controlPlace home) (5 * k + 2) word 0 (own-not-control k home 2 (omega arith)) t;
-      config = getD-set-other m (controlPlace home) (5 * k + 3) word 0 (own-not-control k home 3 (omega arith)) t;
-    }
-
-control-other : (m : List ℕ) (home word k : ℕ) → (k ≡ home → ⊥) → controlAt (withControlWord m home word) k ≡ controlAt m k
-control-other m home word k apart = getD-set-other m (controlPlace home) (controlPlace k) word 0 (λ e. apart (omega arith))
+  control-other : (k ≡ home → ⊥) → controlAt (withControlWord m home word) k ≡ controlAt m k
+  control-other apart = getD-set-other m (controlPlace home) (controlPlace k) word 0 (λ e. apart (omega arith))
 
 -- ---- a record stored: what is its own at its row, the control word at its home
 
--- to store what is its own is the whole store where its control word is the one that stands, and to store the control word where the rest is
-pub own-stored : (m : List ℕ) (row : ℕ) (r : Record) → r .control ≡ controlAt m (homeAt ours row) → withOwn m row (ownOf r) ≡ withRecord m row r
-unfolding withRecord
-own-stored m row r stands =
-    let left = withOwn m row (ownOf r) in
-    sym (set-getD left (controlPlace (homeAt ours row)) 0)
-    ∙ ap (withControlWord left (homeAt ours row)) (own-keeps-control m row (ownOf r) (homeAt ours row) ∙ sym stands)
+-- the control word that stands at a row's home
+pub word-stands : (b : Board) (m : List ℕ) (row : ℕ) → recordAt b m row .control ≡ controlAt m (homeAt b row)
+unfolding recordIn recordsIn
+word-stands b m row = table-here (controlAt m) 0 rows (homeAt b row) (home-small b row)
 
-pub control-stored : (m : List ℕ) (row : ℕ) (r : Record) → ownOf r ≡ ownAt m row → withControlWord m (homeAt ours row) (r .control) ≡ withRecord m row r
+-- what stands at a row
+pub own-stands : (b : Board) (m : List ℕ) (row : ℕ) → row < rows → ownOf (recordAt b m row) ≡ ownAt m row
+unfolding recordIn recordsIn
+own-stands b m row h = table-here (ownAt m) freeOwn rows row h
+
+-- to store what is its own is the whole store where its control word is the one that stands, and to store the control word where the rest is
+pub own-stored : (b : Board) (m : List ℕ) (row : ℕ) (r : Record) → r .control ≡ controlAt m (homeAt b row) → withOwn m row (ownOf r) ≡ withRecord b m row r
 unfolding withRecord
-control-stored m row r stands =
-    ap (λ (l : List ℕ). withControlWord l (homeAt ours row) (r .control)) (sym (own-kept m row) ∙ ap (withOwn m row) (sym stands))
+own-stored b m row r stands =
+    let left = withOwn m row (ownOf r) in
+    sym (set-getD left (controlPlace (homeAt b row)) 0)
+    ∙ ap (withControlWord left (homeAt b row)) (own-keeps-control m row (ownOf r) (homeAt b row) ∙ sym stands)
+
+pub control-stored : (b : Board) (m : List ℕ) (row : ℕ) (r : Record) → ownOf r ≡ ownAt m row → withControlWord m (homeAt b row) (r .control) ≡ withRecord b m row r
+unfolding withRecord
+control-stored b m row r stands =
+    ap (λ (l : List ℕ). withControlWord l (homeAt b row) (r .control)) (sym (own-kept m row) ∙ ap (withOwn m row) (sym stands))
+
+-- a store leaves the memory as long as it was
+pub record-length : (b : Board) (m : List ℕ) (row : ℕ) (r : Record) → length (withRecord b m row r) ≡ length m
+unfolding withRecord
+record-length b m row r = length-set (withOwn m row (ownOf r)) (controlPlace (homeAt b row)) (r .control) ∙ own-length m row (ownOf r)
 
 -- a record put where it stands changes nothing
-pub store-same : (m : List ℕ) (row : ℕ) → withRecord m row (recordAt m row) ≡ m
-store-same m row = sym (own-stored m row (recordAt m row) refl) ∙ own-kept m row
+pub store-same : (b : Board) (m : List ℕ) (row : ℕ) → withRecord b m row (recordAt b m row) ≡ m
+store-same b m row =
+    sym (own-stored b m row (recordAt b m row) (word-stands b m row))
+    ∙ ⊎-elim (λ t. ap (withOwn m row) (own-stands b m row (ltb-true row rows t)) ∙ own-kept m row)
+    (λ f. own-none m row (ownOf (recordAt b m row)) (ltb-false row rows f))
+    (decide (ltb row rows))
 
-module _ (m : List ℕ) (row : ℕ) (r : Record) (fits : 5 * row + 4 < length m) where
-  control-same : controlAt (withRecord m row r) (homeAt ours row) ≡ r .control
-  unfolding withRecord
-  control-same =
-      getD-set-same (withOwn m row (ownOf r)) (controlPlace (homeAt ours row)) (r .control) 0
-      (subst⁻¹ (λ (n : ℕ). controlPlace (homeAt ours row) < n) (own-length m row (ownOf r) fits)
-      (let home = home-within ours row in omega arith))
-
-  own-put : ownAt (withRecord m row r) row ≡ ownOf r
-  unfolding withRecord
-  own-put = control-keeps-own (withOwn m row (ownOf r)) (homeAt ours row) (r .control) row ∙ own-same m row (ownOf r) fits
-
-  pub record-same : recordAt (withRecord m row r) row ≡ r
-  record-same = ap₂ joined own-put control-same
+-- what is each row's own after a store, also where the row is not there
+own-rows : (m : List ℕ) (row : ℕ) (o : Own) → length m ≡ 160 → tableOf (ownAt (withOwn m row o)) 0 rows ≡ set (tableOf (ownAt m) 0 rows) row o
+own-rows m row o size =
+    ⊎-elim
+    (λ t.
+    let h = ltb-true row rows t in
+    sym
+    (table-set (ownAt m) (ownAt (withOwn m row o)) o rows 0 row
+    (ap (ownAt (withOwn m row o)) (zero-add row) ∙ own-same m row o size h)
+    (λ k apart. own-other m row o k (λ e. apart (e ∙ sym (zero-add row))))))
+    (λ f.
+    let past = ltb-false row rows f in
+    ap (λ (l : List ℕ). tableOf (ownAt l) 0 rows) (own-none m row o past)
+    ∙ sym (set-out (tableOf (ownAt m) 0 rows) row o (subst⁻¹ (λ (n : ℕ). n ≤ row) (table-length (ownAt m) rows 0) past)))
+    (decide (ltb row rows))
 
 -- the records read after a store are the records before it with that one put there
-pub records-store : (m : List ℕ) (row : ℕ) (r : Record) → length m ≡ 20 → row < 4 → recordsIn (withRecord m row r) ≡ putIn ours (recordsIn m) row r
+pub records-store : (b : Board) (m : List ℕ) (row : ℕ) (r : Record) → length m ≡ 160 → recordsIn (withRecord b m row r) ≡ putIn b (recordsIn m) row r
 unfolding recordsIn putIn withRecord
-records-store m row r size h =
-    let fits : 5 * row + 4 < length m = omega arith in
-    let home = homeAt ours row in
+records-store b m row r size =
+    let home = homeAt b row in
     let left = withOwn m row (ownOf r) in
+    let within = home-small b row in
     ap₂ (λ (os : List Own) (words : List ℕ). record { own = os; controls = words })
+    (table-below (ownAt (withRecord b m row r)) (ownAt left) rows 0 (λ k low high. control-keeps-own left home (r .control) k (omega arith))
+    ∙ own-rows m row (ownOf r) size)
     (sym
-    (byRow-set (ownAt m) (ownAt (withRecord m row r)) (ownOf r) (rows ours) 0 row
-    (ap (ownAt (withRecord m row r)) (zero-add row) ∙ own-put m row r fits)
-    (λ k apart.
-    control-keeps-own left home (r .control) k ∙ own-other m row (ownOf r) k (λ e. apart (e ∙ sym (zero-add row))))))
-    (sym
-    (byRow-set (controlAt m) (controlAt (withRecord m row r)) (r .control) (rows ours) 0 home
-    (ap (controlAt (withRecord m row r)) (zero-add home) ∙ control-same m row r fits)
+    (table-set (controlAt m) (controlAt (withRecord b m row r)) (r .control) rows 0 home
+    (ap (controlAt (withRecord b m row r)) (zero-add home)
+    ∙ getD-set-same left (controlPlace home) (r .control) 0 (let same = own-length m row (ownOf r) in omega arith))
     (λ k apart.
     control-other left home (r .control) k (λ e. apart (e ∙ sym (zero-add home))) ∙ own-keeps-control m row (ownOf r) k)))
 
--- a row that is not there is not stored to
-pub records-kept : (m : List ℕ) (row : ℕ) (r : Record) → length m ≡ 20 → 4 ≤ row → withRecord m row r ≡ m
-unfolding withRecord rows ours
-records-kept m row r size h =
-    ap (λ (l : List ℕ). withControlWord l (homeAt ours row) (r .control)) (own-none m row (ownOf r) (omega arith))
-    ∙ set-out m (controlPlace (homeAt ours row)) (r .control)
-    (subst⁻¹ (λ (n : ℕ). length m ≤ controlPlace n) (home-past ours row h) (omega arith))
+-- so a record that was stored is read back
+pub record-same : (b : Board) (m : List ℕ) (row : ℕ) (r : Record) → length m ≡ 160 → row < rows → recordAt b (withRecord b m row r) row ≡ r
+unfolding recordIn recordsIn putIn
+record-same b m row r size h =
+    ap (λ (rs : Records). recordIn b rs row) (records-store b m row r size)
+    ∙ ap₂ joined
+    (getD-set-same (recordsIn m .own) row (ownOf r) freeOwn (subst⁻¹ (λ (n : ℕ). row < n) (table-length (ownAt m) rows 0) h))
+    (getD-set-same (recordsIn m .controls) (homeAt b row) (r .control) 0
+    (subst⁻¹ (λ (n : ℕ). homeAt b row < n) (table-length (controlAt m) rows 0) (home-small b row)))
 
 -- ---- what a call sees
 
--- past the last row there is no entry and no record
-no-entry-past : (a : List ℕ) → length a ≡ 17 → entryAt a (rows ours) ≡ noEntry
-unfolding entryAt noEntry rows ours
-no-entry-past a size =
+-- past the last row there is no entry
+no-entry-past : (a : List ℕ) (row : ℕ) → length a ≡ 129 → rows ≤ row → entryAt a row ≡ noEntry
+unfolding entryAt noEntry
+no-entry-past a row size past =
     λ t.
     record {
-      master = List·getD-eq-default a 0 {n = 17} (omega arith) t;
-      first = List·getD-eq-default a 0 {n = 18} (omega arith) t;
-      second = List·getD-eq-default a 0 {n = 19} (omega arith) t;
-      third = List·getD-eq-default a 0 {n = 20} (omega arith) t;
+      master = List·getD-eq-default a 0 {n = 1 + 4 * row} (omega arith) t;
+      first = List·getD-eq-default a 0 {n = 1 + 4 * row + 1} (omega arith) t;
+      second = List·getD-eq-default a 0 {n = 1 + 4 * row + 2} (omega arith) t;
+      third = List·getD-eq-default a 0 {n = 1 + 4 * row + 3} (omega arith) t;
     }
 
-no-own-past : (m : List ℕ) → length m ≡ 20 → ownAt m (rows ours) ≡ freeOwn
-unfolding freeOwn rows ours
-no-own-past m size =
-    λ t.
-    record {
-      controller = List·getD-eq-default m 0 {n = 20} (omega arith) t;
-      low = List·getD-eq-default m 0 {n = 21} (omega arith) t;
-      high = List·getD-eq-default m 0 {n = 22} (omega arith) t;
-      config = List·getD-eq-default m 0 {n = 23} (omega arith) t;
-    }
-
-no-control-past : (m : List ℕ) → length m ≡ 20 → controlAt m (rows ours) ≡ 0
-unfolding rows ours
-no-control-past m size = List·getD-eq-default m 0 {n = 24} (omega arith)
+pub entry-stands : (a : List ℕ) (row : ℕ) → length a ≡ 129 → getD (entriesIn a) row noEntry ≡ entryAt a row
+unfolding entriesIn
+entry-stands a row size =
+    ⊎-elim (λ t. table-here (entryAt a) noEntry rows row (ltb-true row rows t))
+    (λ f.
+    let past = ltb-false row rows f in
+    table-past (entryAt a) noEntry rows 0 row past ∙ sym (no-entry-past a row size past))
+    (decide (ltb row rows))
 
 -- what a message sees of the processor that it names is what stands at its row
-pub view-in : (a m : List ℕ) (p : ℕ) → length a ≡ 17 → length m ≡ 20 → viewOf (stateIn a m) p ≡ viewIn a m (rowOf ours p)
-unfolding viewOf entryOf recordOf recordIn stateIn setupIn viewIn entriesIn recordsIn
-view-in a m p la lm =
-    let row = rowOf ours p in
-    let last = row-within ours p in
+pub view-in : (b : Board) (a m : List ℕ) (p : ℕ) → length a ≡ 129 → viewOf (stateIn b a m) p ≡ viewIn b a m (rowOf b p)
+unfolding viewOf entryOf recordOf stateIn setupIn viewIn
+view-in b a m p la =
     λ t.
     record {
-      board = ours;
+      board = b;
       listed = listed-some (listedIn a) t;
-      entry = byRow-all (entryAt a) noEntry (rows ours) row last (no-entry-past a la) t;
-      state =
-          joined (byRow-all (ownAt m) freeOwn (rows ours) row last (no-own-past m lm) t)
-          (byRow-all (controlAt m) 0 (rows ours) (homeAt ours row) (le-trans (home-within ours row) last) (no-control-past m lm) t);
+      entry = entry-stands a (rowOf b p) la t;
+      state = recordAt b m (rowOf b p);
     }
 
--- memory that is all zeros is a fresh manager
-pub zeros-fresh : stateIn (replicate 17 0) (replicate 20 0) ≡ fresh ours
-unfolding stateIn setupIn someList listedIn entriesIn recordsIn byRow entryAt fresh noEntries noEntry rows ours freeOwn
-zeros-fresh = refl
+-- memory that is all zeros is a fresh manager, on any board
+pub zeros-fresh : (b : Board) → stateIn b (replicate 129 0) (replicate 160 0) ≡ fresh b
+unfolding stateIn setupIn someList listedIn entriesIn recordsIn tableOf entryAt fresh noEntries noEntry freeOwn
+zeros-fresh b = refl
+
+-- ---- what the code loads
+
+-- the control word at the place that it has found, and the words of a row; past the rows there is nothing of its own
+module _ (b : Board) (m : List ℕ) (row : ℕ) {place : ℕ} (at : place ≡ controlPlace (homeAt b row)) where
+  word-at : getD m place 0 ≡ getD (recordsIn m .controls) (homeAt b row) 0
+  unfolding recordsIn
+  word-at = ap (λ (n : ℕ). getD m n 0) at ∙ sym (table-here (controlAt m) 0 rows (homeAt b row) (home-small b row))
+
+  pub load-here : row < rows → joined (ownAt m row) (getD m place 0) ≡ recordAt b m row
+  unfolding recordIn recordsIn
+  load-here h = ap₂ joined (sym (table-here (ownAt m) freeOwn rows row h)) word-at
+
+  pub load-past : rows ≤ row → joined freeOwn (getD m place 0) ≡ recordAt b m row
+  unfolding recordIn recordsIn
+  load-past h = ap₂ joined (sym (table-past (ownAt m) freeOwn rows 0 row h)) word-at

@@ -3,6 +3,7 @@
 // the record in the lent memory, and a refusal leaves it.
 ghost use mathlib.Core.List.{[]};
 ghost use Rattle.rules.specs.declared.Kind.the-variants.{Release};
+ghost use Rattle.board.specs.Memory.{boardIn};
 ghost use Rattle.operations.specs.Operation.{asked, CarriesByController};
 use board::ROWS;
 use effects::held_by;
@@ -13,17 +14,17 @@ use rights::is_controller;
 use rules::Outcome;
 
 // Release: the sender is the controller. The processor is free, and the other fields are kept.
-pub fn release(records: &mut [u32], channel: u8, message: &[u8]) -> Outcome
-    ensures { λ r. ⌜ CarriesByController Release (now (records .entry)) (asked channel (now (message .entry)) []) (now (records .exit)) r ⌝ }
+pub fn release(board: &[u8; 576], records: &mut [u32; 160], channel: u8, message: &[u8]) -> Outcome
+    ensures { λ r. ⌜ CarriesByController (boardIn (now (board .entry))) Release (now (records .entry)) (asked channel (now (message .entry)) []) (now (records .exit)) r ⌝ }
 {
     if message.len() < 9 {
         return Outcome::N4;
     }
-    let row = row_in(message);
+    let row = row_in(board, message);
     if ROWS <= row {
         return Outcome::N6;
     }
-    let state = load(records, row);
+    let state = load(board, &records[..], row);
     if !is_controller(state, channel) {
         return Outcome::N7;
     }

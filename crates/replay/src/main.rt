@@ -22,8 +22,9 @@ fn read_behind(input: &mut [u8], held: usize) -> usize
 // Reads once, behind the bytes left over, and plays what is there. At the end of the input a field
 // that was cut off is reported.
 fn turn(
-    access: &mut [u16; 17],
-    records: &mut [u32; 20],
+    board: &mut [u8; 576],
+    access: &mut [u16; 129],
+    records: &mut [u32; 160],
     words: &mut [u32; 255],
     stand: Stand,
     input: &mut [u8; 65536],
@@ -46,15 +47,18 @@ fn turn(
         };
     }
     let end = held + more;
-    play_held(access, records, words, count, input, end, output)
+    play_held(board, access, records, words, count, input, end, output)
 }
 
+// Document 01's board stands until a board description is taken.
 fn main() {
-    let mut access = [0u16; 17];
-    let mut records = [0u32; 20];
+    let mut board = [0u8; 576];
+    let mut access = [0u16; 129];
+    let mut records = [0u32; 160];
     let mut words = [0u32; 255];
     let mut input = io::large_buffer();
     let mut output = io::large_buffer();
+    manager::start(&mut board);
     let mut stand = Stand {
         held: 0,
         words: 0,
@@ -66,6 +70,7 @@ fn main() {
             return;
         }
         stand = turn(
+            &mut board,
             &mut access,
             &mut records,
             &mut words,

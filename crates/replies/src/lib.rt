@@ -7,6 +7,7 @@ ghost use mathlib.Core.List.{[]};
 ghost use Rattle.rules.specs.declared.Outcome.the-variants.{Ok};
 ghost use Rattle.rules.specs.Message.{answerAsked};
 ghost use Rattle.rules.specs.Answer.{nak, answerBytes};
+ghost use Rattle.board.specs.Memory.{boardIn};
 ghost use Rattle.records.specs.Memory.{recordAt};
 ghost use Rattle.operations.specs.Operation.{asked, rowIn};
 ghost use Rattle.replies.specs.Puts.{Puts};
@@ -34,15 +35,21 @@ fn status_now(status: &[u32]) -> u32
 
 // Writes the ACK where an answer is asked for, and gives its length. That to get status has the
 // record and the status now, every other is the header alone.
-fn write_ack(answer: &mut [u8], message: &[u8], records: &[u32], status: &[u32]) -> usize
-    ensures { λ r. ⌜ Puts (answerBytes Ok (asked 0 (now (message .entry)) (now (status .entry))) (recordAt (now (records .entry)) (rowIn (asked 0 (now (message .entry)) (now (status .entry)))))) (now (answer .entry)) (now (answer .exit)) r ⌝ }
+fn write_ack(
+    board: &[u8; 576],
+    answer: &mut [u8],
+    message: &[u8],
+    records: &[u32],
+    status: &[u32],
+) -> usize
+    ensures { λ r. ⌜ Puts (answerBytes Ok (asked 0 (now (message .entry)) (now (status .entry))) (recordAt (boardIn (now (board .entry))) (now (records .entry)) (rowIn (boardIn (now (board .entry))) (asked 0 (now (message .entry)) (now (status .entry)))))) (now (answer .entry)) (now (answer .exit)) r ⌝ }
 {
     if !answer_asked(message) {
         return 0;
     }
     let kind = kind_of(u16_at(message, 0));
     if let Kind::GetStatus = kind {
-        let state = load(records, row_in(message));
+        let state = load(board, records, row_in(board, message));
         let bytes = status_answer(message, state, status_now(status));
         return put(answer, &bytes);
     }
@@ -65,17 +72,18 @@ fn write_nak(answer: &mut [u8], message: &[u8]) -> usize
 // that is too short for the answer is left as it was; no outcome but R1, which has none, comes to that.
 // The outcome is tested before the flag, so that the compiler can join each refusal with its answer.
 pub fn write_answer(
+    board: &[u8; 576],
     answer: &mut [u8],
     message: &[u8],
     outcome: Outcome,
     records: &[u32],
     status: &[u32],
 ) -> usize
-    ensures { λ r. ⌜ Puts (answerBytes outcome (asked 0 (now (message .entry)) (now (status .entry))) (recordAt (now (records .entry)) (rowIn (asked 0 (now (message .entry)) (now (status .entry)))))) (now (answer .entry)) (now (answer .exit)) r ⌝ }
+    ensures { λ r. ⌜ Puts (answerBytes outcome (asked 0 (now (message .entry)) (now (status .entry))) (recordAt (boardIn (now (board .entry))) (now (records .entry)) (rowIn (boardIn (now (board .entry))) (asked 0 (now (message .entry)) (now (status .entry)))))) (now (answer .entry)) (now (answer .exit)) r ⌝ }
 {
     let number = outcome_number(outcome);
     if number == 0 {
-        return write_ack(answer, message, records, status);
+        return write_ack(board, answer, message, records, status);
     }
     if 100 < number {
         return 0;

@@ -3,6 +3,7 @@
 // the lent memory, and a refusal leaves it.
 ghost use mathlib.Core.List.{[]};
 ghost use Rattle.rules.specs.declared.Kind.the-variants.{Request};
+ghost use Rattle.board.specs.Memory.{boardIn};
 ghost use Rattle.operations.specs.Operation.{asked, Carries};
 use board::ROWS;
 use effects::held_by;
@@ -14,18 +15,24 @@ use rules::Outcome;
 
 // Request: the processor is free and the sender permitted, or the sender is its recovery master. The
 // sender controls.
-pub fn request(access: &[u16], records: &mut [u32], channel: u8, message: &[u8]) -> Outcome
-    ensures { λ r. ⌜ Carries Request (now (access .entry)) (now (records .entry)) (asked channel (now (message .entry)) []) (now (records .exit)) r ⌝ }
+pub fn request(
+    board: &[u8; 576],
+    access: &[u16],
+    records: &mut [u32; 160],
+    channel: u8,
+    message: &[u8],
+) -> Outcome
+    ensures { λ r. ⌜ Carries (boardIn (now (board .entry))) Request (now (access .entry)) (now (records .entry)) (asked channel (now (message .entry)) []) (now (records .exit)) r ⌝ }
 {
     if message.len() < 9 {
         return Outcome::N4;
     }
-    let row = row_in(message);
+    let row = row_in(board, message);
     if ROWS <= row {
         return Outcome::N6;
     }
-    let state = load(records, row);
-    if !may_request(access, row, state, channel) {
+    let state = load(board, &records[..], row);
+    if !may_request(board, access, row, state, channel) {
         return Outcome::N7;
     }
     store_own(records, row, held_by(channel, state));

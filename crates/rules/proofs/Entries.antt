@@ -12,7 +12,8 @@ use borrow.Author.Tests.{eqb-true, eqb-false, ltb-true, ltb-false, not-false}
 use Rattle.rules.specs.declared.Verdict.the-variants.{Accepted}
 use Rattle.rules.specs.Table.{firstOf, anyOf}
 use Rattle.rules.specs.Board.{Board, activeHost, rows, rowOf, onBoard}
-use Rattle.rules.specs.AccessList.{Entry, noEntry, parts, processorIn, masterIn, used, namedIn, entryTable, entriesTable, listTable, verdictOf, accepted, entryIn, withPart, withParts, noEntries, entriesOf, hasEntry}
+use Rattle.rules.specs.Verdict.{accepted}
+use Rattle.rules.specs.AccessList.{Entry, noEntry, parts, processorIn, masterIn, used, namedIn, entryTable, entriesTable, listTable, verdictOf, entryIn, withPart, withParts, noEntries, entriesOf, hasEntry}
 use Rattle.rules.proofs.Tests.{decide, clash, and-left, and-right, or-cases, cleared, passed}
 use Rattle.rules.proofs.Rights.{active-not-zero}
 
@@ -102,19 +103,19 @@ module _ (b : Board) where
       (decide (used part))
 
   -- the entry that names p is put at p's row
-  part-there : (part : List ℕ) → GoodPart b part → (es : List Entry) (p : ℕ) → length es ≡ rows b
+  part-there : (part : List ℕ) → GoodPart b part → (es : List Entry) (p : ℕ) → length es ≡ rows
       → used part ≡ true → processorIn part ≡ p → hasEntry (getD (withPart b part es) (rowOf b p) noEntry) ≡ true
   unfolding withPart onBoard
   part-there part good es p size u names =
       let inside : rowOf b (processorIn part) < length es =
-      subst⁻¹ (λ (n : ℕ). rowOf b (processorIn part) < n) size (ltb-true (rowOf b (processorIn part)) (rows b) (good .on u))
+      subst⁻¹ (λ (n : ℕ). rowOf b (processorIn part) < n) size (ltb-true (rowOf b (processorIn part)) rows (good .on u))
       in
       subst (λ (r : ℕ). hasEntry (getD (withPart b part es) (rowOf b r) noEntry) ≡ true) names
       (rw u
       (ap hasEntry (getD-set-same es (rowOf b (processorIn part)) (entryIn part) noEntry inside)
       ∙ entry-there b part (good .master u)))
 
-  parts-there : {rest : List (List ℕ)} → GoodParts b rest → (es : List Entry) (p : ℕ) → length es ≡ rows b
+  parts-there : {rest : List (List ℕ)} → GoodParts b rest → (es : List Entry) (p : ℕ) → length es ≡ rows
       → namedIn rest p ≡ true → hasEntry (getD (withParts b rest es) (rowOf b p) noEntry) ≡ true
   unfolding withParts namedIn anyOf
   parts-there none es p size named = clash {x = false} named refl
@@ -132,7 +133,7 @@ module _ (b : Board) where
       → hasEntry (getD (entriesOf b bytes) (rowOf b p) noEntry) ≡ true
   unfolding entriesOf noEntries
   named-there bytes p ok named =
-      parts-there (list-good b bytes ok) (replicate (rows b) noEntry) p (length-replicate (rows b) noEntry) named
+      parts-there (list-good b bytes ok) (replicate rows noEntry) p (length-replicate rows noEntry) named
 
   -- and is on the board
   parts-on : {rest : List (List ℕ)} → GoodParts b rest → (p : ℕ) → namedIn rest p ≡ true → onBoard b p ≡ true

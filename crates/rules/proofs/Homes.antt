@@ -1,120 +1,196 @@
--- Homes of control words (document 02, L4): a home is one of the rows, and its own home; processors share a control word exactly where it
--- has one home. For any board. Assumes nothing.
-use Prim.Native.Nat.{ℕ, zero, suc, _≤_}
-use mathlib.Core.Path.{_≡_, refl, sym, _∙_, ap}
+-- Homes of control words (document 02, L4): a home is one of the rows, and its own home; the processors of a board share a control word exactly
+-- where they are of one ARMv8 cluster, and then have one class. For any description. Assumes nothing.
+use Prim.Native.Nat.{ℕ, zero, suc, _%_, _≤_, _<_}
+use mathlib.Core.Path.{_≡_, refl, sym, subst⁻¹, _∙_, ap}
 use mathlib.Core.Bool.{Bool, true, false, not, _&&_}
 use mathlib.Core.List.{List, [], _∷_, map}
 use mathlib.Core.Logic.{⊎-elim}
-use native.Mathlib.Nat.{not-suc-le-zero, le-of-suc-le-suc}
+use native.Mathlib.Nat.{lt-of-le-of-lt}
 use native.Mathlib.Omega.{arith}
-use lib.ListN.{length, getD}
+use lib.ListN.{getD}
 use lib.Dec.{eqb}
 use borrow.Author.Tests.{eqb-true, eq-eqb, ne-eqb, not-true}
 use Rattle.rules.specs.Table.{placeOf}
-use Rattle.rules.specs.Board.{Board, Processor, rows, rowOf, onBoard, clusterAt, clusterOf, shareControl, homeAt, homeOf}
+use Rattle.rules.specs.Board.{Board, armv8, rows, rowOf, onBoard, classAt, classOf, homeAt, homeOf, shareControl}
+use Rattle.rules.specs.Description.{Processor, Description, rowIn, classIn, sharedCluster, sharedIn, homeIn, shareWord, boardOf}
+use Rattle.rules.specs.Sequence.{Good}
 use Rattle.rules.proofs.Tests.{decide, clash, cond-true, cond-false, and-left, and-right, and-both, or-cases, or-left, or-right}
-use Rattle.rules.proofs.Rows.{row-one}
+use Rattle.rules.proofs.Tables.{table-here}
+use Rattle.rules.proofs.Rows.{placed, row-one}
 
--- the processor is of cluster c
+-- the processor has the word of cluster c
 abbrev inCluster : ℕ → Processor → Bool
-inCluster c x = eqb c (x .cluster)
+inCluster c x = eqb c (sharedCluster x)
 
 abbrev clusters : List Processor → List ℕ
-clusters xs = map (λ (x : Processor). x .cluster) xs
+clusters xs = map sharedCluster xs
 
--- the first processor of the cluster that the one at a row has stands there or before, and is of that cluster
+-- the first processor of the cluster whose word the one at a row has stands there or before, and has that word
 cluster-first : (xs : List Processor) (row c : ℕ) → getD (clusters xs) row 0 ≡ c → eqb c 0 ≡ false
     → (placeOf (inCluster c) xs ≤ row) × (getD (clusters xs) (placeOf (inCluster c) xs) 0 ≡ c)
 unfolding placeOf
 cluster-first [] row c is some = clash (eq-eqb c 0 (sym is)) some
-cluster-first (x ∷ xs) zero c is some = rw (eq-eqb c (x .cluster) (sym is)) (omega arith, is)
+cluster-first (x ∷ xs) zero c is some = rw (eq-eqb c (sharedCluster x) (sym is)) (omega arith, is)
 cluster-first (x ∷ xs) (suc row) c is some =
     let further = cluster-first xs row c is some in
     ⊎-elim
-    (λ (t : inCluster c x ≡ true). rw t (omega arith, sym (eqb-true c (x .cluster) t)))
+    (λ (t : inCluster c x ≡ true). rw t (omega arith, sym (eqb-true c (sharedCluster x) t)))
     (λ (f : inCluster c x ≡ false). rw f (let h = further .0 in omega arith, further .1))
     (decide (inCluster c x))
 
-module _ (b : Board) (row : ℕ) where
+module _ (d : Description) (row : ℕ) where
   -- so a home is a row: the row itself, or one before it
-  pub home-within : homeAt b row ≤ row
-  unfolding homeAt clusterAt
-  home-within =
+  home-before : homeIn d row ≤ row
+  unfolding homeIn sharedIn
+  home-before =
       ⊎-elim
-      (λ (alone : eqb (clusterAt b row) 0 ≡ true). rw alone (omega arith))
-      (λ (some : eqb (clusterAt b row) 0 ≡ false). rw some (cluster-first (b .processors) row (clusterAt b row) refl some .0))
-      (decide (eqb (clusterAt b row) 0))
+      (λ (alone : eqb (sharedIn d row) 0 ≡ true). rw alone (omega arith))
+      (λ (some : eqb (sharedIn d row) 0 ≡ false). rw some (cluster-first (d .processors) row (sharedIn d row) refl some .0))
+      (decide (eqb (sharedIn d row) 0))
 
   -- of the same cluster
-  home-cluster : clusterAt b (homeAt b row) ≡ clusterAt b row
-  unfolding homeAt clusterAt
+  home-cluster : sharedIn d (homeIn d row) ≡ sharedIn d row
+  unfolding homeIn sharedIn
   home-cluster =
       ⊎-elim
-      (λ (alone : eqb (clusterAt b row) 0 ≡ true). ap (clusterAt b) (cond-true row _ alone))
-      (λ (some : eqb (clusterAt b row) 0 ≡ false).
-      ap (clusterAt b) (cond-false row _ some) ∙ cluster-first (b .processors) row (clusterAt b row) refl some .1)
-      (decide (eqb (clusterAt b row) 0))
+      (λ (alone : eqb (sharedIn d row) 0 ≡ true). ap (sharedIn d) (cond-true row _ alone))
+      (λ (some : eqb (sharedIn d row) 0 ≡ false).
+      ap (sharedIn d) (cond-false row _ some) ∙ cluster-first (d .processors) row (sharedIn d row) refl some .1)
+      (decide (eqb (sharedIn d row) 0))
 
-  home-alone : eqb (clusterAt b row) 0 ≡ true → homeAt b row ≡ row
-  unfolding homeAt
+  home-alone : eqb (sharedIn d row) 0 ≡ true → homeIn d row ≡ row
+  unfolding homeIn
   home-alone alone = cond-true row _ alone
 
   -- the rows of a cluster have one home
-  home-one : (other : ℕ) → eqb (clusterAt b row) 0 ≡ false → clusterAt b row ≡ clusterAt b other → homeAt b row ≡ homeAt b other
-  unfolding homeAt
+  home-one : (other : ℕ) → eqb (sharedIn d row) 0 ≡ false → sharedIn d row ≡ sharedIn d other → homeIn d row ≡ homeIn d other
+  unfolding homeIn
   home-one other some same =
       cond-false row _ some
-      ∙ ap (λ (c : ℕ). placeOf (inCluster c) (b .processors)) same
+      ∙ ap (λ (c : ℕ). placeOf (inCluster c) (d .processors)) same
       ∙ sym (cond-false other _ (ap (λ (c : ℕ). eqb c 0) (sym same) ∙ some))
 
 -- a home is its own home
-pub home-home : (b : Board) (row : ℕ) → homeAt b (homeAt b row) ≡ homeAt b row
-home-home b row =
-    ⊎-elim (λ alone. ap (homeAt b) (home-alone b row alone))
-    (λ some. home-one b (homeAt b row) row (ap (λ (c : ℕ). eqb c 0) (home-cluster b row) ∙ some) (home-cluster b row))
-    (decide (eqb (clusterAt b row) 0))
+home-again : (d : Description) (row : ℕ) → homeIn d (homeIn d row) ≡ homeIn d row
+home-again d row =
+    ⊎-elim (λ alone. ap (homeIn d) (home-alone d row alone))
+    (λ some. home-one d (homeIn d row) row (ap (λ (c : ℕ). eqb c 0) (home-cluster d row) ∙ some) (home-cluster d row))
+    (decide (eqb (sharedIn d row) 0))
 
--- processors that share a control word have one home
-sharers-home : (b : Board) (p r : ℕ) → shareControl b p r ≡ true → homeOf b p ≡ homeOf b r
-unfolding shareControl homeOf clusterOf
-sharers-home b p r shared =
-    let some = not (eqb (clusterAt b (rowOf b p)) 0) in
-    let same = eqb (clusterAt b (rowOf b p)) (clusterAt b (rowOf b r)) in
-    ⊎-elim (λ e. ap (λ (x : ℕ). homeAt b (rowOf b x)) (eqb-true p r e))
-    (λ one.
-    home-one b (rowOf b p) (rowOf b r) (not-true _ (and-left some same one))
-    (eqb-true (clusterAt b (rowOf b p)) (clusterAt b (rowOf b r)) (and-right some same one)))
-    (or-cases (eqb p r) (some && same) shared)
+-- ---- on the board
 
--- who has one home with a processor on the board is that processor, or of its cluster
-home-shared : (b : Board) (p r : ℕ) → onBoard b r ≡ true → homeOf b p ≡ homeOf b r → shareControl b p r ≡ true
-unfolding shareControl homeOf clusterOf
-home-shared b p r on one =
-    let same : clusterAt b (rowOf b p) ≡ clusterAt b (rowOf b r) =
-    sym (home-cluster b (rowOf b p)) ∙ ap (clusterAt b) one ∙ home-cluster b (rowOf b r)
-    in
+-- whatever the tables hold, a home is a row
+pub home-small : (b : Board) (row : ℕ) → homeAt b row < rows
+unfolding homeAt
+home-small b row = omega arith
+
+module _ (d : Description) (row : ℕ) (h : row < rows) where
+  home-told : homeAt (boardOf d) row ≡ homeIn d row
+  unfolding homeAt boardOf
+  home-told =
+      ap (λ (n : ℕ). n % rows) (table-here (homeIn d) 0 rows row h)
+      ∙ (let within = home-before d row in omega arith)
+
+  class-told : classAt (boardOf d) row ≡ classIn d row % 2
+  unfolding classAt boardOf
+  class-told = ap (λ (n : ℕ). n % 2) (table-here (classIn d) 0 rows row h)
+
+-- a processor that has a cluster's word is ARMv8
+shared-class : (xs : List Processor) (row : ℕ) → eqb (getD (clusters xs) row 0) 0 ≡ false → getD (map (λ (x : Processor). x .class) xs) row 0 ≡ armv8
+unfolding sharedCluster
+shared-class [] row some = clash {x = true} refl some
+shared-class (x ∷ xs) zero some =
+    ⊎-elim (λ t. eqb-true (x .class) armv8 t) (λ (f : eqb (x .class) armv8 ≡ false). clash {x = true} refl (rw f at some)) (decide (eqb (x .class) armv8))
+shared-class (x ∷ xs) (suc row) some = shared-class xs row some
+
+-- rows of one home have one cluster's word, and one class
+one-cluster : (d : Description) (row other : ℕ) → homeIn d row ≡ homeIn d other → sharedIn d row ≡ sharedIn d other
+one-cluster d row other one = sym (home-cluster d row) ∙ ap (sharedIn d) one ∙ home-cluster d other
+
+one-class : (d : Description) (row other : ℕ) → homeIn d row ≡ homeIn d other → classIn d row ≡ classIn d other
+unfolding sharedIn classIn
+one-class d row other one =
+    let same = one-cluster d row other one in
     ⊎-elim
     (λ alone.
-    let row : rowOf b p ≡ rowOf b r =
-    sym (home-alone b (rowOf b p) alone) ∙ one ∙ home-alone b (rowOf b r) (ap (λ (c : ℕ). eqb c 0) (sym same) ∙ alone)
-    in
-    or-left _ (eq-eqb p r (row-one b p r row on)))
-    (λ some. or-right (eqb p r) (and-both (ap not some) (eq-eqb _ _ same)))
-    (decide (eqb (clusterAt b (rowOf b p)) 0))
+    ap (classIn d) (sym (home-alone d row alone) ∙ one ∙ home-alone d other (ap (λ (c : ℕ). eqb c 0) (sym same) ∙ alone)))
+    (λ some.
+    shared-class (d .processors) row some
+    ∙ sym (shared-class (d .processors) other (ap (λ (c : ℕ). eqb c 0) (sym same) ∙ some)))
+    (decide (eqb (sharedIn d row) 0))
 
--- processors share a control word exactly where it has one home
-pub share-home : (b : Board) (p r : ℕ) → onBoard b r ≡ true → shareControl b p r ≡ eqb (homeOf b p) (homeOf b r)
-share-home b p r on =
-    ⊎-elim (λ shared. shared ∙ sym (eq-eqb (homeOf b p) (homeOf b r) (sharers-home b p r shared)))
-    (λ apart. apart ∙ sym (ne-eqb (homeOf b p) (homeOf b r) (λ e. clash (home-shared b p r on e) apart)))
-    (decide (shareControl b p r))
+-- what holds of the board that a description gives
+pub board-good : (d : Description) → Good (boardOf d)
+unfolding homeOf classOf
+board-good d =
+    record {
+      rows-apart = row-one d;
+      sharers-class =
+          λ p r on-p on-r one.
+          let at-p = placed d p on-p .below in
+          let at-r = placed d r on-r .below in
+          class-told d (rowOf (boardOf d) p) at-p
+          ∙ ap (λ (n : ℕ). n % 2) (one-class d _ _ (sym (home-told d _ at-p) ∙ one ∙ home-told d _ at-r))
+          ∙ sym (class-told d (rowOf (boardOf d) r) at-r);
+      home-within =
+          λ p on.
+          subst⁻¹ (λ (n : ℕ). n ≤ rowOf (boardOf d) p) (home-told d _ (placed d p on .below)) (home-before d (rowOf (boardOf d) p));
+      home-home =
+          λ p on.
+          let at = placed d p on .below in
+          let row = rowOf (boardOf d) p in
+          ap (homeAt (boardOf d)) (home-told d row at)
+          ∙ home-told d (homeIn d row) (lt-of-le-of-lt (home-before d row) at)
+          ∙ home-again d row
+          ∙ sym (home-told d row at);
+    }
 
--- past the last row there is no cluster, and the home is the row that was asked for
-no-cluster : (xs : List Processor) (row : ℕ) → length xs ≤ row → getD (clusters xs) row 0 ≡ 0
-no-cluster [] row h = refl
-no-cluster (x ∷ xs) zero h = absurd (not-suc-le-zero h)
-no-cluster (x ∷ xs) (suc row) h = no-cluster xs row (le-of-suc-le-suc h)
+-- ---- who shares a control word
 
-pub home-past : (b : Board) (row : ℕ) → rows b ≤ row → homeAt b row ≡ row
-unfolding clusterAt rows
-home-past b row h = home-alone b row (eq-eqb (clusterAt b row) 0 (no-cluster (b .processors) row h))
+module _ (d : Description) (p r : ℕ) (on-p : onBoard (boardOf d) p ≡ true) (on-r : onBoard (boardOf d) r ≡ true) where
+  row-p : rowOf (boardOf d) p ≡ rowIn d p
+  row-p = placed d p on-p .row ∙ sym (placed d p on-p .in-list)
+
+  row-r : rowOf (boardOf d) r ≡ rowIn d r
+  row-r = placed d r on-r .row ∙ sym (placed d r on-r .in-list)
+
+  home-p : homeOf (boardOf d) p ≡ homeIn d (rowIn d p)
+  unfolding homeOf
+  home-p = home-told d _ (placed d p on-p .below) ∙ ap (homeIn d) row-p
+
+  home-r : homeOf (boardOf d) r ≡ homeIn d (rowIn d r)
+  unfolding homeOf
+  home-r = home-told d _ (placed d r on-r .below) ∙ ap (homeIn d) row-r
+
+  sharers-home : shareWord d p r ≡ true → homeIn d (rowIn d p) ≡ homeIn d (rowIn d r)
+  unfolding shareWord
+  sharers-home shared =
+      let some = not (eqb (sharedIn d (rowIn d p)) 0) in
+      let same = eqb (sharedIn d (rowIn d p)) (sharedIn d (rowIn d r)) in
+      ⊎-elim (λ e. ap (λ (x : ℕ). homeIn d (rowIn d x)) (eqb-true p r e))
+      (λ one.
+      home-one d (rowIn d p) (rowIn d r) (not-true _ (and-left some same one))
+      (eqb-true (sharedIn d (rowIn d p)) (sharedIn d (rowIn d r)) (and-right some same one)))
+      (or-cases (eqb p r) (some && same) shared)
+
+  home-shared : homeIn d (rowIn d p) ≡ homeIn d (rowIn d r) → shareWord d p r ≡ true
+  unfolding shareWord
+  home-shared one =
+      let same = one-cluster d (rowIn d p) (rowIn d r) one in
+      ⊎-elim
+      (λ alone.
+      let row : rowIn d p ≡ rowIn d r =
+      sym (home-alone d (rowIn d p) alone) ∙ one ∙ home-alone d (rowIn d r) (ap (λ (c : ℕ). eqb c 0) (sym same) ∙ alone)
+      in
+      or-left _ (eq-eqb p r (row-one d p r (row-p ∙ row ∙ sym row-r) on-r)))
+      (λ some. or-right (eqb p r) (and-both (ap not some) (eq-eqb _ _ same)))
+      (decide (eqb (sharedIn d (rowIn d p)) 0))
+
+  -- processors on the board share a control word exactly where they are one, or of one ARMv8 cluster
+  pub share-clusters : shareControl (boardOf d) p r ≡ shareWord d p r
+  unfolding shareControl
+  share-clusters =
+      ⊎-elim
+      (λ shared. eq-eqb _ _ (home-p ∙ sharers-home shared ∙ sym home-r) ∙ sym shared)
+      (λ apart. ne-eqb _ _ (λ e. clash (home-shared (sym home-p ∙ e ∙ home-r)) apart) ∙ sym apart)
+      (decide (shareWord d p r))

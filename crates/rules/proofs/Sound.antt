@@ -11,29 +11,36 @@ use lib.Dec.{eqb, ltb}
 use borrow.Author.Tests.{eqb-true, eqb-false, eq-eqb, ltb-true, ltb-false}
 use Rattle.rules.specs.declared.Record.{Record}
 use Rattle.rules.specs.Table.{firstOf}
-use Rattle.rules.specs.Board.{Board, rows, rowOf, homeAt, homeOf}
-use Rattle.rules.specs.AccessList.{noEntry, listTable, verdictOf, accepted}
+use Rattle.rules.specs.Verdict.{accepted}
+use Rattle.rules.specs.Board.{Board, rows, rowOf, onBoard, homeAt, homeOf}
+use Rattle.rules.specs.Description.{descriptionTable, boardVerdict, descriptionIn, described}
+use Rattle.rules.specs.AccessList.{noEntry, listTable, verdictOf}
 use Rattle.rules.specs.Message.{Query, subjectOf}
 use Rattle.rules.specs.Outcome.{outcomeOf, carriedOut}
 use Rattle.rules.specs.Effect.{recordAfter}
 use Rattle.rules.specs.State.{listed, listIn, Own, State, ownOf, joined, freeOwn, fresh, entryOf, recordIn, recordOf, viewOf, putIn, stored}
-use Rattle.rules.specs.Call.{Offer, list, verdictTo, taken, afterOffer, afterMessage, queryOf, Call, offer, message, next}
-use Rattle.rules.specs.Sequence.{run, permittedFor, freeOrPermitted, Sound}
+use Rattle.rules.specs.Call.{Offer, board, list, verdictTo, taken, afterOffer, afterMessage, queryOf, Call, offer, message, next}
+use Rattle.rules.specs.Sequence.{run, permittedFor, freeOrPermitted, Good, Sound}
 use Rattle.rules.proofs.Tests.{decide, clash, or-left, cond-true, cond-false}
-use Rattle.rules.proofs.Homes.{home-home}
+use Rattle.rules.proofs.Homes.{board-good}
 use Rattle.rules.proofs.Rights.{soundly, allowed, after-sound, refusal-keeps}
 
 -- ---- an offer
 
-again : (b : Board) (bytes : List ℕ) → accepted (verdictOf b true bytes) ≡ false
+list-again : (b : Board) (bytes : List ℕ) → accepted (verdictOf b true bytes) ≡ false
 unfolding verdictOf listTable firstOf accepted
-again b bytes = refl
+list-again b bytes = refl
+
+board-again : (bytes : List ℕ) → accepted (boardVerdict true bytes) ≡ false
+unfolding boardVerdict descriptionTable firstOf accepted
+board-again bytes = refl
 
 -- once something was accepted, every offer is refused
 pub offer-refused : (s : State) (o : Offer) → listed (s .setup .source) ≡ true → accepted (verdictTo s o) ≡ false
 unfolding verdictTo
+offer-refused s (board bytes) e = subst⁻¹ (λ (x : Bool). accepted (boardVerdict x bytes) ≡ false) e (board-again bytes)
 offer-refused s (list bytes) e =
-    subst⁻¹ (λ (x : Bool). accepted (verdictOf (s .setup .board) x bytes) ≡ false) e (again (s .setup .board) bytes)
+    subst⁻¹ (λ (x : Bool). accepted (verdictOf (s .setup .board) x bytes) ≡ false) e (list-again (s .setup .board) bytes)
 
 -- and changes nothing
 pub offer-kept : (s : State) (o : Offer) → listed (s .setup .source) ≡ true → afterOffer s o ≡ s
@@ -81,17 +88,31 @@ module _ (s : State) (x : ℕ) (r : Record) (p : ℕ) where
       (getD-set-other (s .records .controls) (homeOf (s .setup .board) x) (homeOf (s .setup .board) p) (r .control) 0
       (eqb-false (homeOf (s .setup .board) p) (homeOf (s .setup .board) x) elsewhere))
 
--- nor does it change a control word that no processor uses
-stored-spare : (s : State) (x : ℕ) (r : Record) (row : ℕ) → eqb (homeAt (s .setup .board) row) row ≡ false
-    → getD (stored s x r .records .controls) row 0 ≡ getD (s .records .controls) row 0
-unfolding stored putIn
-stored-spare s x r row spare =
-    let b = s .setup .board in
-    getD-set-other (s .records .controls) (homeAt b (rowOf b x)) row (r .control) 0
-    (λ e.
-    clash
-    (eq-eqb (homeAt b row) row (ap (homeAt b) e ∙ home-home b (rowOf b x) ∙ sym e))
-    spare)
+-- nor does a message change a row or a control word that is no processor's
+module _ (s : State) (q : Query) (row : ℕ) where
+  message-spare-own : ((p : ℕ) → onBoard (s .setup .board) p ≡ true → eqb (rowOf (s .setup .board) p) row ≡ false)
+      → getD (afterMessage s q .records .own) row freeOwn ≡ getD (s .records .own) row freeOwn
+  unfolding afterMessage stored putIn viewOf
+  message-spare-own spare =
+      let x = subjectOf q in
+      ⊎-elim
+      (λ ok.
+      getD-set-other (s .records .own) (rowOf (s .setup .board) x) row _ freeOwn
+      (λ e. eqb-false _ row (spare x (allowed (viewOf s x) q ok .onboard)) (sym e)))
+      (λ refused. ap (λ (t : State). getD (t .records .own) row freeOwn) (message-refused s q refused))
+      (decide (carriedOut (outcomeOf (viewOf s x) q)))
+
+  message-spare-word : ((p : ℕ) → onBoard (s .setup .board) p ≡ true → eqb (homeOf (s .setup .board) p) row ≡ false)
+      → getD (afterMessage s q .records .controls) row 0 ≡ getD (s .records .controls) row 0
+  unfolding afterMessage stored putIn viewOf homeOf
+  message-spare-word spare =
+      let x = subjectOf q in
+      ⊎-elim
+      (λ ok.
+      getD-set-other (s .records .controls) (homeOf (s .setup .board) x) row _ 0
+      (λ e. eqb-false _ row (spare x (allowed (viewOf s x) q ok .onboard)) (sym e)))
+      (λ refused. ap (λ (t : State). getD (t .records .controls) row 0) (message-refused s q refused))
+      (decide (carriedOut (outcomeOf (viewOf s x) q)))
 
 -- every processor that was held by a permitted host or by none still is
 held-after : (s : State) (q : Query) (p : ℕ) → freeOrPermitted (s .setup) p (recordOf s p) ≡ true
@@ -132,15 +153,17 @@ same-at a (suc n) (suc i) = same-at a n i
 
 fresh-free : (b : Board) (i : ℕ) → eqb (getD (fresh b .records .own) i freeOwn .controller) 0 ≡ true
 unfolding fresh freeOwn
-fresh-free b i = ap (λ (o : Own). eqb (o .controller) 0) (same-at freeOwn (rows b) i)
+fresh-free b i = ap (λ (o : Own). eqb (o .controller) 0) (same-at freeOwn rows i)
 
-pub sound-fresh : (b : Board) → Sound (fresh b)
+pub sound-fresh : (b : Board) → Good b → Sound (fresh b)
 unfolding fresh listed freeOrPermitted recordOf recordIn
-sound-fresh b =
+sound-fresh b good =
     record {
-      rows-there = length-replicate (rows b) freeOwn;
-      homes-there = length-replicate (rows b) 0;
-      spare-zero = λ row spare. same-at 0 (rows b) row;
+      board-good = good;
+      rows-there = length-replicate rows freeOwn;
+      homes-there = length-replicate {A = ℕ} rows 0;
+      spare-free = λ row spare. same-at freeOwn rows row;
+      spare-zero = λ row spare. same-at {A = ℕ} 0 rows row;
       none-fresh = λ e. refl;
       list-good = λ t. clash {x = false} t refl;
       entries-its = λ t. clash {x = false} t refl;
@@ -149,13 +172,19 @@ sound-fresh b =
 
 -- what an accepted offer sets, in a state that was fresh
 sound-taken : (s : State) → Sound s → (o : Offer) → accepted (verdictTo s o) ≡ true → Sound (taken s o)
-unfolding verdictTo taken listed listIn freeOrPermitted recordOf recordIn
+unfolding verdictTo taken fresh listed listIn freeOrPermitted recordOf recordIn described
+sound-taken s sound (board bytes) ok =
+    let none = first-accepted s (board bytes) ok in
+    subst⁻¹ Sound (ap (λ (t : State). taken t (board bytes)) (sound .none-fresh none))
+    (sound-fresh (described bytes) (board-good (descriptionIn bytes)))
 sound-taken s sound (list bytes) ok =
     let none = first-accepted s (list bytes) ok in
     let was : s ≡ fresh (s .setup .board) = sound .none-fresh none in
     record {
+      board-good = sound .board-good;
       rows-there = sound .rows-there;
       homes-there = sound .homes-there;
+      spare-free = sound .spare-free;
       spare-zero = sound .spare-zero;
       none-fresh = λ e. clash {x = true} refl e;
       list-good = λ t. subst (λ (x : Bool). accepted (verdictOf (s .setup .board) x bytes) ≡ true) none ok;
@@ -178,11 +207,11 @@ sound-message : (s : State) → Sound s → (q : Query) → Sound (afterMessage 
 unfolding afterMessage stored putIn
 sound-message s sound q =
     record {
+      board-good = sound .board-good;
       rows-there = length-set (s .records .own) (rowOf (s .setup .board) (subjectOf q)) _ ∙ sound .rows-there;
       homes-there = length-set (s .records .controls) (homeAt (s .setup .board) (rowOf (s .setup .board) (subjectOf q))) _ ∙ sound .homes-there;
-      spare-zero =
-          λ row spare.
-          stored-spare s (subjectOf q) (recordAfter (viewOf s (subjectOf q)) q) row spare ∙ sound .spare-zero row spare;
+      spare-free = λ row spare. message-spare-own s q row spare ∙ sound .spare-free row spare;
+      spare-zero = λ row spare. message-spare-word s q row spare ∙ sound .spare-zero row spare;
       none-fresh = λ e. message-unlisted s q e ∙ sound .none-fresh e;
       list-good = sound .list-good;
       entries-its = sound .entries-its;

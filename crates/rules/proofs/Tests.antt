@@ -105,6 +105,19 @@ allOf-member test (x ∷ xs) p t m =
     (λ m. allOf-member test xs p (and-right (test x) (allOf test xs) t) m)
     (or-cases (eqb p x) (anyOf (eqb p) xs) m)
 
+-- where every member passes, all do
+pub allOf-all : (test : ℕ → Bool) (xs : List ℕ) → ((p : ℕ) → anyOf (eqb p) xs ≡ true → test p ≡ true) → allOf test xs ≡ true
+unfolding anyOf allOf
+allOf-all test [] each = refl
+allOf-all test (x ∷ xs) each =
+    and-both (each x (or-left (anyOf (eqb x) xs) (eq-eqb x x refl))) (allOf-all test xs (λ p m. each p (or-right (eqb p x) m)))
+
+-- and where whatever stands at each place passes
+pub allFrom-all : {A : Type 0} (test : ℕ → A → Bool) (xs : List A) (i : ℕ) → ((k : ℕ) (x : A) → test k x ≡ true) → allFrom test i xs ≡ true
+unfolding allFrom
+allFrom-all test [] i each = refl
+allFrom-all test (x ∷ xs) i each = and-both (each i x) (allFrom-all test xs (suc i) each)
+
 -- where every element passes at its place, the one at k does
 pub allFrom-at : {A : Type 0} (test : ℕ → A → Bool) (xs : List A) (i k : ℕ) (d : A)
     → allFrom test i xs ≡ true → k < length xs → test (i + k) (getD xs k d) ≡ true
@@ -117,11 +130,11 @@ allFrom-at test (x ∷ xs) i (suc k) d t h =
     (allFrom-at test xs (suc i) k d (and-right (test i x) (allFrom test (suc i) xs) t) (le-of-suc-le-suc h))
 
 -- so a table that gives f at each of its places gives it at k
-pub allFrom-gives : (f : ℕ → ℕ) (table : List ℕ) (k : ℕ)
-    → allFrom (λ (i x : ℕ). eqb x (f i)) 0 table ≡ true → k < length table → getD table k 0 ≡ f k
-allFrom-gives f table k t h =
-    eqb-true (getD table k 0) (f k)
-    (subst (λ (n : ℕ). eqb (getD table k 0) (f n) ≡ true) (zero-add k) (allFrom-at (λ (i x : ℕ). eqb x (f i)) table 0 k 0 t h))
+pub allFrom-gives : (f : ℕ → ℕ) (table : List ℕ) (k d : ℕ)
+    → allFrom (λ (i x : ℕ). eqb x (f i)) 0 table ≡ true → k < length table → getD table k d ≡ f k
+allFrom-gives f table k d t h =
+    eqb-true (getD table k d) (f k)
+    (subst (λ (n : ℕ). eqb (getD table k d) (f n) ≡ true) (zero-add k) (allFrom-at (λ (i x : ℕ). eqb x (f i)) table 0 k d t h))
 
 -- ---- stores
 

@@ -86,21 +86,6 @@ listTable b listed list =
 unfoldable pub verdictOf : Board → Bool → List ℕ → Verdict
 verdictOf b listed list = firstOf Accepted (listTable b listed list)
 
--- document 01's number of a verdict: 0 for what was accepted, and k for Ak
-abbrev pub verdictNumber : Verdict → ℕ
-verdictNumber Accepted = 0
-verdictNumber A1 = 1
-verdictNumber A2 = 2
-verdictNumber A3 = 3
-verdictNumber A4 = 4
-verdictNumber A5 = 5
-verdictNumber A6 = 6
-verdictNumber A7 = 7
-verdictNumber A8 = 8
-
-unfoldable pub accepted : Verdict → Bool
-accepted v = eqb (verdictNumber v) 0
-
 -- ---- the entries that an accepted list leaves, by row
 
 unfoldable pub entryIn : List ℕ → Entry
@@ -115,11 +100,11 @@ unfoldable pub withParts : Board → List (List ℕ) → List Entry → List Ent
 withParts b [] entries = entries
 withParts b (part ∷ rest) entries = withParts b rest (withPart b part entries)
 
-unfoldable pub noEntries : Board → List Entry
-noEntries b = replicate (rows b) noEntry
+unfoldable pub noEntries : List Entry
+noEntries = replicate rows noEntry
 
 unfoldable pub entriesOf : Board → List ℕ → List Entry
-entriesOf b list = withParts b (parts list) (noEntries b)
+entriesOf b list = withParts b (parts list) noEntries
 
 -- ---- who is permitted
 

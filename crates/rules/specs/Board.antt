@@ -1,26 +1,21 @@
--- "Our board": hosts, secure or not; processors with their classes, clusters and rows; the row where a control word is kept; the flag
--- bits that may be named. The rules are written over a board, and `ours` is document 01's with document 02's cluster. Assumes nothing.
-use Prim.Native.Nat.{ℕ}
-use mathlib.Core.Bool.{Bool, true, false, cond, not, _&&_, _||_}
-use mathlib.Core.List.{List, [], _∷_, map}
-use lib.ListN.{length, getD}
+-- "Our board", as the board in force: tables of its hosts, of its processors' rows, and by row of their classes and of the homes of their
+-- control words; the flag bits that may be named. Document 02, L8, fills them from a description (Description.antt). Any tables are a board.
+-- Assumes nothing.
+use Prim.Native.Nat.{ℕ, _%_}
+use mathlib.Core.Bool.{Bool, not, _&&_, _||_}
+use mathlib.Core.List.{List, [], _∷_}
+use lib.ListN.{getD}
 use lib.Dec.{eqb, ltb}
-use Rattle.rules.specs.Table.{anyOf, placeOf, allFrom}
 
-pub record Host : Type 0 where
-  pub number : ℕ
-  pub secure : Bool
-
-pub record Processor : Type 0 where
-  pub number : ℕ
-  pub class : ℕ
-  -- the number of its cluster, 0 for a processor that is alone
-  pub cluster : ℕ
-
--- host 0, the management firmware, is on every board and is not listed
 pub record Board : Type 0 where
-  pub hosts : List Host
-  pub processors : List Processor
+  -- by host number: 0 for none, 1 for a host that is not secure, 2 for a secure one
+  pub hosts : List ℕ
+  -- by processor number: its row; a number that is no row is the mark for none
+  pub places : List ℕ
+  -- by row: the class of its processor
+  pub classes : List ℕ
+  -- by row: the home of its control word, the row where that is kept
+  pub homes : List ℕ
 
 -- the classes, as places in the table of flag bits
 abbrev pub r5 : ℕ
@@ -29,77 +24,51 @@ r5 = 0
 abbrev pub armv8 : ℕ
 armv8 = 1
 
--- document 01's board; of document 02, L4, that "processors 32 and 33 form one cluster" and "the R5 cores stay single"
-unfoldable pub ours : Board
-ours =
-    record {
-      hosts =
-          record { number = 3; secure = true }
-          ∷ record { number = 10; secure = true }
-          ∷ record { number = 4; secure = false }
-          ∷ record { number = 5; secure = false }
-          ∷ record { number = 6; secure = false }
-          ∷ record { number = 12; secure = false }
-          ∷ record { number = 13; secure = false }
-          ∷ [];
-      processors =
-          record { number = 1; class = r5; cluster = 0 }
-          ∷ record { number = 2; class = r5; cluster = 0 }
-          ∷ record { number = 32; class = armv8; cluster = 1 }
-          ∷ record { number = 33; class = armv8; cluster = 1 }
-          ∷ [];
-    }
+-- document 02, L8: "raise the limits to 32 processors", each with a row, "and 64 hosts"
+abbrev pub rows : ℕ
+rows = 32
 
--- h is a board host
+abbrev pub hostLimit : ℕ
+hostLimit = 64
+
+-- h is a board host; host 0, the management firmware, is on every board
 unfoldable pub boardHost : Board → ℕ → Bool
-boardHost b h = eqb h 0 || anyOf (λ (x : Host). eqb h (x .number)) (b .hosts)
+boardHost b h = eqb h 0 || not (eqb (getD (b .hosts) h 0) 0)
 
 -- h is a board host but 0, which is never a sender and never a controller
 unfoldable pub activeHost : Board → ℕ → Bool
 activeHost b h = not (eqb h 0) && boardHost b h
 
--- how many rows there are: one for each processor
-unfoldable pub rows : Board → ℕ
-rows b = length (b .processors)
+-- h is a secure host
+unfoldable pub secureHost : Board → ℕ → Bool
+secureHost b h = eqb (getD (b .hosts) h 0) 2
 
--- the row of processor p, or the number of rows, which is the mark for none
+-- the row of processor p, or the mark for none
 unfoldable pub rowOf : Board → ℕ → ℕ
-rowOf b p = placeOf (λ (x : Processor). eqb p (x .number)) (b .processors)
-
--- document 02, L2: "a table of 256 numbers that gives the row of each processor byte, or a mark for none"; a test over the whole table
-unfoldable pub givesRows : Board → List ℕ → Bool
-givesRows b table = eqb (length table) 256 && allFrom (λ (p row : ℕ). eqb row (rowOf b p)) 0 table
+rowOf b p = getD (b .places) p rows
 
 -- p is on the board
 unfoldable pub onBoard : Board → ℕ → Bool
-onBoard b p = ltb (rowOf b p) (rows b)
+onBoard b p = ltb (rowOf b p) rows
 
--- the class of the processor at a row
+-- the class of the processor at a row: there are two, so any number there is one
 unfoldable pub classAt : Board → ℕ → ℕ
-classAt b row = getD (map (λ (x : Processor). x .class) (b .processors)) row r5
+classAt b row = getD (b .classes) row r5 % 2
 
 -- the class of processor p
 unfoldable pub classOf : Board → ℕ → ℕ
 classOf b p = classAt b (rowOf b p)
 
--- the cluster of the processor at a row, and of processor p; 0 for none
-unfoldable pub clusterAt : Board → ℕ → ℕ
-clusterAt b row = getD (map (λ (x : Processor). x .cluster) (b .processors)) row 0
-
-unfoldable pub clusterOf : Board → ℕ → ℕ
-clusterOf b p = clusterAt b (rowOf b p)
-
--- document 02, L4: which processors share a control word: those of one cluster, and each with itself
-unfoldable pub shareControl : Board → ℕ → ℕ → Bool
-shareControl b p r = eqb p r || not (eqb (clusterOf b p) 0) && eqb (clusterOf b p) (clusterOf b r)
-
--- the home of a control word, where it is kept: the row of the cluster's first processor; that of a processor alone is its own row
+-- the home of the control word of the processor at a row: any number there is a row
 unfoldable pub homeAt : Board → ℕ → ℕ
-homeAt b row =
-    cond (eqb (clusterAt b row) 0) row (placeOf (λ (x : Processor). eqb (clusterAt b row) (x .cluster)) (b .processors))
+homeAt b row = getD (b .homes) row 0 % rows
 
 unfoldable pub homeOf : Board → ℕ → ℕ
 homeOf b p = homeAt b (rowOf b p)
+
+-- document 02, L4: two processors on the board share a control word: it has one home
+unfoldable pub shareControl : Board → ℕ → ℕ → Bool
+shareControl b p r = eqb (homeOf b p) (homeOf b r)
 
 -- the words of a record that hold flags, as places in a row of the table of flag bits
 abbrev pub configWord : ℕ

@@ -1,12 +1,14 @@
--- The calls: an offer, which is a list ("Access list"), and a message ("Messages"); what each is told, and the state that it leaves.
--- Assumes nothing.
+-- The calls: an offer, which is a board description (document 02, L8) or a list ("Access list"), and a message ("Messages"); what each is
+-- told, and the state that it leaves. Assumes nothing.
 use Prim.Native.Nat.{ℕ}
 use mathlib.Core.Bool.{cond}
 use mathlib.Core.List.{List}
 use lib.ListN.{length}
 use Rattle.rules.specs.declared.Report.{Report}
 use Rattle.rules.specs.declared.Verdict.{Verdict}
-use Rattle.rules.specs.AccessList.{entriesOf, verdictOf, accepted}
+use Rattle.rules.specs.Verdict.{accepted}
+use Rattle.rules.specs.Description.{boardVerdict, described}
+use Rattle.rules.specs.AccessList.{entriesOf, verdictOf}
 use Rattle.rules.specs.Message.{Query, subjectOf}
 use Rattle.rules.specs.Effect.{recordAfter}
 use Rattle.rules.specs.Answer.{reportOf, answerOf}
@@ -14,15 +16,22 @@ use Rattle.rules.specs.State.{aList, listed, State, viewOf, stored}
 
 -- ---- offers
 
--- what can set the state up: a list, with its bytes
+-- what can set the state up: a board description or a list, with its bytes
 pub data Offer : Type 0 where
+  board : List ℕ → Offer
   list : List ℕ → Offer
 
 unfoldable pub verdictTo : State → Offer → Verdict
+verdictTo s (board bytes) = boardVerdict (listed (s .setup .source)) bytes
 verdictTo s (list bytes) = verdictOf (s .setup .board) (listed (s .setup .source)) bytes
 
--- what an accepted offer sets: a list's entries are in force, and the records stay
+-- what an accepted offer sets, and the records stay: a description's board replaces the board before it whole; a list's entries are in force
 unfoldable pub taken : State → Offer → State
+taken s (board bytes) =
+    record {
+      setup = record { board = described bytes; source = s .setup .source; entries = s .setup .entries };
+      records = s .records;
+    }
 taken s (list bytes) =
     record {
       setup = record { board = s .setup .board; source = aList bytes; entries = entriesOf (s .setup .board) bytes };

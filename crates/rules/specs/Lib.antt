@@ -2,7 +2,9 @@
 -- others are written with.
 pub mod Table
 pub mod Bytes
+pub mod Verdict
 pub mod Board
+pub mod Description
 pub mod AccessList
 pub mod Message
 pub mod Flags
@@ -15,3 +17,4 @@ pub mod Call
 pub mod Sequence
 pub mod Bench
 pub mod Cluster
+pub mod Boards

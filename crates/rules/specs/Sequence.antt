@@ -1,15 +1,16 @@
 -- Sequences of calls ("What demand 3 speaks of"): the state that they leave, and what holds of every such state. Assumes nothing.
-use Prim.Native.Nat.{ℕ}
+use Prim.Native.Nat.{ℕ, _≤_}
 use mathlib.Core.Path.{_≡_}
 use mathlib.Core.Bool.{Bool, true, false, _||_}
 use mathlib.Core.List.{List, [], _∷_}
 use lib.ListN.{length, getD}
 use lib.Dec.{eqb}
 use Rattle.rules.specs.declared.Record.{Record}
-use Rattle.rules.specs.Board.{rows, homeAt}
-use Rattle.rules.specs.AccessList.{permitted, entriesOf, verdictOf, accepted}
+use Rattle.rules.specs.Verdict.{accepted}
+use Rattle.rules.specs.Board.{Board, rows, rowOf, onBoard, classOf, homeAt, homeOf}
+use Rattle.rules.specs.AccessList.{permitted, entriesOf, verdictOf}
 use Rattle.rules.specs.Outcome.{isFree}
-use Rattle.rules.specs.State.{listed, listIn, Setup, State, fresh, entryOf, recordOf}
+use Rattle.rules.specs.State.{listed, listIn, Setup, State, freeOwn, fresh, entryOf, recordOf}
 use Rattle.rules.specs.Call.{Call, next}
 
 -- the state after a sequence
@@ -25,13 +26,28 @@ permittedFor setup p h = permitted (setup .board) (entryOf setup p) h
 unfoldable pub freeOrPermitted : Setup → ℕ → Record → Bool
 freeOrPermitted setup p r = isFree r || permittedFor setup p (r .controller)
 
+-- what holds of a board that a description gives, and not of every content of the tables
+pub record Good (b : Board) : Type 0 where
+  -- rows are one-to-one: two processors of which one is on the board have one row only if they are one
+  pub rows-apart : (p r : ℕ) → rowOf b p ≡ rowOf b r → onBoard b r ≡ true → p ≡ r
+  -- processors that share a control word have one class
+  pub sharers-class : (p r : ℕ) → onBoard b p ≡ true → onBoard b r ≡ true → homeOf b p ≡ homeOf b r → classOf b p ≡ classOf b r
+  -- a home is a row, that of the processor or of one before it, and its own home
+  pub home-within : (p : ℕ) → onBoard b p ≡ true → homeOf b p ≤ rowOf b p
+  pub home-home : (p : ℕ) → onBoard b p ≡ true → homeAt b (homeOf b p) ≡ homeOf b p
+
 -- the invariant of every state that calls left, whatever the calls
 pub record Sound (s : State) : Type 0 where
-  -- there is a record for each processor, and a place for each control word
-  pub rows-there : length (s .records .own) ≡ rows (s .setup .board)
-  pub homes-there : length (s .records .controls) ≡ rows (s .setup .board)
-  -- a control word that no processor uses, since its row is no home, is 0
-  pub spare-zero : (row : ℕ) → eqb (homeAt (s .setup .board) row) row ≡ false → getD (s .records .controls) row 0 ≡ 0
+  -- the board is one that a description gives
+  pub board-good : Good (s .setup .board)
+  -- there is a place for each row's record, and one for each control word
+  pub rows-there : length (s .records .own) ≡ rows
+  pub homes-there : length (s .records .controls) ≡ rows
+  -- a row that is no processor's is free and zero, and a control word that is none's is 0
+  pub spare-free :
+      (row : ℕ) → ((p : ℕ) → onBoard (s .setup .board) p ≡ true → eqb (rowOf (s .setup .board) p) row ≡ false) → getD (s .records .own) row freeOwn ≡ freeOwn
+  pub spare-zero :
+      (row : ℕ) → ((p : ℕ) → onBoard (s .setup .board) p ≡ true → eqb (homeOf (s .setup .board) p) row ≡ false) → getD (s .records .controls) row 0 ≡ 0
   -- with no list accepted the state is fresh
   pub none-fresh : listed (s .setup .source) ≡ false → s ≡ fresh (s .setup .board)
   -- a list that is in force is one that the table accepts

@@ -1,5 +1,5 @@
--- The state: what was accepted and what stands since then ("Access list"), and each processor's record ("Our board"), of which the control
--- word may be a cluster's (document 02, L4). A message call sees a `View` of it. Assumes nothing.
+-- The state: the board in force (document 02, L8), what was accepted and what stands since then ("Access list"), and each processor's record
+-- ("Our board"), of which the control word may be a cluster's (document 02, L4). A message call sees a `View` of it. Assumes nothing.
 use Prim.Native.Nat.{ℕ}
 use mathlib.Core.Bool.{Bool, true, false}
 use mathlib.Core.List.{List, []}
@@ -59,12 +59,12 @@ joined own control =
 unfoldable pub freeOwn : Own
 freeOwn = record { controller = 0; low = 0; high = 0; config = 0 }
 
--- all start free and zero, and no list is accepted
+-- all start free and zero, on this board, and no list is accepted
 unfoldable pub fresh : Board → State
 fresh b =
     record {
-      setup = record { board = b; source = nothing; entries = noEntries b };
-      records = record { own = replicate (rows b) freeOwn; controls = replicate (rows b) 0 };
+      setup = record { board = b; source = nothing; entries = noEntries };
+      records = record { own = replicate rows freeOwn; controls = replicate rows 0 };
     }
 
 unfoldable pub entryOf : Setup → ℕ → Entry

@@ -1,6 +1,6 @@
 -- A table of a paper, read from top to bottom: the first line whose test holds decides. Document 01's outcomes and its reasons to
 -- refuse a list are such tables. Assumes nothing.
-use Prim.Native.Nat.{ℕ, suc}
+use Prim.Native.Nat.{ℕ, zero, suc}
 use mathlib.Core.Bool.{Bool, true, false, cond, _&&_, _||_}
 use mathlib.Core.List.{List, [], _∷_}
 
@@ -33,3 +33,8 @@ allOf test (x ∷ xs) = test x && allOf test xs
 unfoldable pub allFrom : {A : Type 0} → (ℕ → A → Bool) → ℕ → List A → Bool
 allFrom test i [] = true
 allFrom test i (x ∷ xs) = test i x && allFrom test (suc i) xs
+
+-- a table of n places, counted from i, in which f says what stands at each
+unfoldable pub tableOf : {A : Type 0} → (ℕ → A) → ℕ → ℕ → List A
+tableOf f i zero = []
+tableOf f i (suc n) = f i ∷ tableOf f (suc i) n

@@ -18,7 +18,8 @@ pub enum Outcome {
     Ok,
 }
 
-// What an access list comes to: accepted, or refused by a row of document 01's table.
+// What an offer comes to, an access list or a board description: accepted, or refused by a row of
+// document 01's table or of document 02's.
 pub enum Verdict {
     Accepted,
     A1,
@@ -29,6 +30,21 @@ pub enum Verdict {
     A6,
     A7,
     A8,
+    D1,
+    D2,
+    D3,
+    D4,
+    D5,
+    D6,
+}
+
+// One item of a board description, by its tag: 1 a host, 2 a processor, 0 for a field that is neither.
+// The mark of a host says whether it is secure, that of a processor is its class. A host's cluster is 0.
+pub struct Item {
+    pub tag: u8,
+    pub number: u8,
+    pub mark: u8,
+    pub cluster: u8,
 }
 
 // What a message asks for, by its type; `Other` is a type that is not in the table.

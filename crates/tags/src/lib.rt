@@ -2,22 +2,22 @@
 ghost use mathlib.Core.Path.{_≡_};
 ghost use Rattle.tags.specs.Tags.{tagGood, lengthGood};
 
-// Whether a tag is one of the three.
+// Whether a tag is one of the four.
 pub fn tag_good(tag: u8) -> bool
     ensures { λ r. ⌜ r ≡ tagGood tag ⌝ }
 {
-    (tag == 1) | (tag == 2) | (tag == 3)
+    (tag == 1) | (tag == 2) | (tag == 3) | (tag == 6)
 }
 
 // Whether a field of this tag may have this length.
 pub fn length_good(tag: u8, length: u16) -> bool
     ensures { λ r. ⌜ r ≡ lengthGood tag length ⌝ }
 {
-    if tag == 1 {
-        return length <= 512;
+    match tag {
+        1 => length <= 512,
+        2 => (length <= 1020) & (length % 4 == 0),
+        3 => (1 <= length) & (length <= 512),
+        6 => length <= 512,
+        _ => false,
     }
-    if tag == 2 {
-        return (length <= 1020) & (length % 4 == 0);
-    }
-    (1 <= length) & (length <= 512) & (tag == 3)
 }

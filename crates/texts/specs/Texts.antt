@@ -1,5 +1,5 @@
--- The names of outcomes and verdicts, the line that a list prints, the fixed lines, and how a line is laid over a buffer. As ASCII.
--- Assumes nothing.
+-- The names of outcomes and verdicts, the lines that a list and a board description print, the fixed lines, and how a line is laid over a
+-- buffer. As ASCII. Assumes nothing.
 use Prim.Native.Nat.{ℕ, _+_, _-_, _≤_}
 use mathlib.Core.Path.{_≡_}
 use mathlib.Core.Bool.{Bool, cond}
@@ -7,23 +7,27 @@ use mathlib.Core.List.{List, [], _∷_, _++_}
 use lib.ListN.{length, take, drop}
 use lib.Dec.{eqb, leb, ltb}
 use Rattle.rules.specs.declared.Verdict.{Verdict}
-use Rattle.rules.specs.AccessList.{verdictNumber}
+use Rattle.rules.specs.Verdict.{verdictNumber}
 
 -- OK, or N and R with their number
 abbrev pub outcomeName : ℕ → List ℕ
 outcomeName number =
     cond (eqb number 0) (79 ∷ 75 ∷ []) (cond (ltb number 100) (78 ∷ (48 + number) ∷ []) (82 ∷ (number - 52) ∷ []))
 
--- OK, or A with its number
+-- OK, or A and D with their number
 abbrev pub verdictName : ℕ → List ℕ
-verdictName number = cond (eqb number 0) (79 ∷ 75 ∷ []) (65 ∷ (48 + number) ∷ [])
+verdictName number =
+    cond (eqb number 0) (79 ∷ 75 ∷ []) (cond (ltb number 200) (65 ∷ (48 + number) ∷ []) (68 ∷ (number - 152) ∷ []))
 
--- tag 1 prints `list OK` or `list A5`
-abbrev pub verdictText : ℕ → List ℕ
-verdictText number = (108 ∷ 105 ∷ 115 ∷ 116 ∷ 32 ∷ []) ++ verdictName number ++ (10 ∷ [])
+-- tag 1 prints `list OK` or `list A5`, tag 6 `board OK`, `board D3` or `board A1`: the word, with a space, and the verdict's name
+abbrev pub listWord : List ℕ
+listWord = 108 ∷ 105 ∷ 115 ∷ 116 ∷ 32 ∷ []
 
-unfoldable pub listLine : Verdict → List ℕ
-listLine v = verdictText (verdictNumber v)
+abbrev pub boardWord : List ℕ
+boardWord = 98 ∷ 111 ∷ 97 ∷ 114 ∷ 100 ∷ 32 ∷ []
+
+unfoldable pub offerLine : List ℕ → Verdict → List ℕ
+offerLine word v = word ++ (verdictName (verdictNumber v) ++ (10 ∷ []))
 
 -- `bad record` and `cut record`
 abbrev pub badLine : List ℕ

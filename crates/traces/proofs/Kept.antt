@@ -5,13 +5,15 @@ use mathlib.Core.Path.{_≡_, refl, sym, ap, _∙_}
 use mathlib.Core.Bool.{Bool}
 use mathlib.Core.Logic.{⊎-elim}
 use Rattle.rules.specs.Board.{rowOf}
-use Rattle.rules.specs.AccessList.{verdictOf, accepted}
+use Rattle.rules.specs.Description.{boardVerdict, described}
+use Rattle.rules.specs.Verdict.{accepted}
+use Rattle.rules.specs.AccessList.{verdictOf}
 use Rattle.rules.specs.Message.{Query, subjectOf}
 use Rattle.rules.specs.Outcome.{View}
 use Rattle.rules.specs.Effect.{recordAfter}
 use Rattle.rules.specs.Answer.{reportOf, answerOf}
 use Rattle.rules.specs.State.{listed, State, entryOf, recordOf, viewOf, putIn, stored}
-use Rattle.rules.specs.Call.{Offer, list, verdictTo, taken, afterOffer, afterMessage, answerTo}
+use Rattle.rules.specs.Call.{Offer, board, list, verdictTo, taken, afterOffer, afterMessage, answerTo}
 use Rattle.rules.proofs.Tests.{decide, cond-true, cond-false}
 use Rattle.access.specs.Memory.{someList, keptSetup}
 use Rattle.access.proofs.Kept.{keeps-listed}
@@ -55,10 +57,14 @@ twice s =
 
 pub verdict-kept : (s : State) (o : Offer) → verdictTo (kept s) o ≡ verdictTo s o
 unfolding verdictTo kept keptSetup
+verdict-kept s (board bytes) = ap (λ (x : Bool). boardVerdict x bytes) (keeps-listed (s .setup))
 verdict-kept s (list bytes) = ap (λ (b : Bool). verdictOf (s .setup .board) b bytes) (keeps-listed (s .setup))
 
-taken-kept : (s : State) (o : Offer) → taken (kept s) o ≡ taken s o
+taken-kept : (s : State) (o : Offer) → kept (taken (kept s) o) ≡ kept (taken s o)
 unfolding taken kept keptSetup
+taken-kept s (board bytes) =
+    ap (λ (x : Bool). record { setup = record { board = described bytes; source = someList x; entries = s .setup .entries }; records = s .records })
+    (keeps-listed (s .setup))
 taken-kept s (list bytes) = refl
 
 pub offer-kept : (s : State) (o : Offer) → kept (afterOffer (kept s) o) ≡ kept (afterOffer s o)
@@ -67,7 +73,7 @@ offer-kept s o =
     let same = ap accepted (verdict-kept s o) in
     ⊎-elim
     (λ ok.
-    ap kept (cond-true (taken (kept s) o) (kept s) (same ∙ ok) ∙ taken-kept s o ∙ sym (cond-true (taken s o) s ok)))
+    ap kept (cond-true (taken (kept s) o) (kept s) (same ∙ ok)) ∙ taken-kept s o ∙ ap kept (sym (cond-true (taken s o) s ok)))
     (λ no.
     ap kept (cond-false (taken (kept s) o) (kept s) (same ∙ no)) ∙ twice s ∙ ap kept (sym (cond-false (taken s o) s no)))
     (decide (accepted (verdictTo s o)))

@@ -1,14 +1,16 @@
 -- The theorem is not empty: the bench list is accepted over memories of zeros, a request of host 3 follows, and both steps meet their
 -- contracts; the theorem applies to it, and to a list that names a cluster. Assumes nothing.
 use Prim.Native.Nat.{ℕ}
-use mathlib.Core.Path.{refl}
+use mathlib.Core.Path.{_≡_, refl, subst⁻¹}
 use mathlib.Core.List.{List, [], _∷_, _++_}
 use lib.ListN.{replicate}
 use Rattle.rules.specs.declared.Outcome.the-variants.{Ok}
 use Rattle.rules.specs.declared.Verdict.the-variants.{Accepted}
-use Rattle.rules.specs.Table.{firstOf, anyOf, allOf, placeOf}
-use Rattle.rules.specs.Board.{ours, boardHost, activeHost, rows, rowOf, onBoard, classAt, classOf, clusterAt, clusterOf, shareControl, homeAt}
-use Rattle.rules.specs.AccessList.{noEntry, partsFrom, namedIn, entryTable, entriesTable, listTable, verdictOf, accepted, entryIn, withPart, withParts, noEntries, entriesOf, hasEntry, isMaster, isSecondary, permitted}
+use Rattle.rules.specs.Table.{firstOf, anyOf, allOf, placeOf, allFrom, tableOf}
+use Rattle.rules.specs.Board.{Board, boardHost, activeHost, rowOf, onBoard, classAt, classOf, homeAt, homeOf, shareControl}
+use Rattle.rules.specs.Description.{ourDescription, listsProcessor, markIn, rowIn, classIn, sharedCluster, sharedIn, homeIn, boardOf, ours}
+use Rattle.rules.specs.Verdict.{accepted}
+use Rattle.rules.specs.AccessList.{noEntry, partsFrom, namedIn, entryTable, entriesTable, listTable, verdictOf, entryIn, withPart, withParts, noEntries, entriesOf, hasEntry, isMaster, isSecondary, permitted}
 use Rattle.rules.specs.Message.{answerAsked, kindOf, waitIn, subjectOf}
 use Rattle.rules.specs.Outcome.{senderWrong, wordsMissing, waitFailed, admission, byWords, outcomeTable, outcomeOf, carriedOut, silent}
 use Rattle.rules.specs.Effect.{recordAfter}
@@ -18,12 +20,14 @@ use Rattle.rules.specs.Call.{afterMessage, answerTo, Lent, next}
 use Rattle.rules.specs.Bench.{benchList, header}
 use Rattle.rules.specs.Cluster.{clusterList}
 use Rattle.noninterference.specs.Statement.{clustersWhole}
-use Rattle.access.specs.Memory.{byRow, listedIn, entryAt, entriesIn, someList, setupIn}
+use Rattle.access.specs.Memory.{listedIn, entryAt, entriesIn, someList, setupIn}
 use Rattle.loading.specs.Loaded.{wordsOf, accessAfter}
 use Rattle.records.specs.Memory.{recordsIn, stateIn}
-use Rattle.manager.specs.Calls.{lending}
-use Rattle.manager.proofs.TwoCalls.{list-state}
-use Rattle.traces.specs.Trace.{Memories, zeros, Step, listStep, messageStep, beforeOf, Meets, Trace, done, step, Loaded}
+use Rattle.board.specs.Memory.{boardBytes}
+use Rattle.boards.proofs.Started.{start-read}
+use Rattle.manager.specs.Calls.{lending, ListCall, MessageCall}
+use Rattle.manager.proofs.EachCall.{list-state}
+use Rattle.traces.specs.Trace.{Memories, started, Step, listStep, messageStep, beforeOf, Meets, Trace, done, step, Loaded}
 use Rattle.traces.specs.Statement.{CodeNoninterference}
 use Rattle.traces.proofs.Theorem.{of-the-code}
 
@@ -32,21 +36,27 @@ bothR5 = 1 ∷ 2 ∷ []
 
 -- the memories that the bench list leaves
 abbrev listed-memories : Memories
-listed-memories = record { access = accessAfter (replicate 17 0) benchList; records = replicate 20 0 }
+listed-memories = record { board = boardBytes ours; access = accessAfter ours (replicate 129 0) benchList; records = replicate 160 0 }
 
-pub bench-loaded : Loaded benchList listed-memories
-unfolding Meets beforeOf firstOf anyOf ours boardHost activeHost placeOf rows rowOf onBoard partsFrom namedIn entryTable entriesTable listTable verdictOf listedIn
+bench-accepted : ListCall ours (replicate 129 0) benchList (accessAfter ours (replicate 129 0) benchList) Accepted
+unfolding tableOf ours ourDescription listsProcessor markIn rowIn classIn sharedCluster sharedIn homeIn boardOf firstOf anyOf boardHost activeHost placeOf rowOf onBoard partsFrom namedIn entryTable entriesTable listTable verdictOf listedIn
+bench-accepted = record { verdict = refl; memory = refl; state = list-state ours (replicate 129 0) benchList }
+
+pub bench-loaded : Loaded ours benchList listed-memories
+unfolding Meets beforeOf
 bench-loaded =
     record {
       earlier = [];
-      before = zeros;
+      before = started;
       trace =
-          step {x = listStep benchList zeros listed-memories Accepted} refl (record { verdict = refl; memory = refl; state = list-state (replicate 17 0) benchList }, refl) done;
+          step {x = listStep benchList started listed-memories Accepted} refl
+          (subst⁻¹ (λ (b : Board). ListCall b (replicate 129 0) benchList (accessAfter ours (replicate 129 0) benchList) Accepted) start-read bench-accepted, refl, refl) done;
+      in-force = start-read;
     }
 
 -- host 3 requests processor 1, and controls it
 abbrev held-memories : Memories
-held-memories = record { access = accessAfter (replicate 17 0) benchList; records = 3 ∷ replicate 19 0 }
+held-memories = record { board = boardBytes ours; access = accessAfter ours (replicate 129 0) benchList; records = 3 ∷ replicate 159 0 }
 
 abbrev asked : Lent
 asked = lending 3 (0x00 ∷ 0xC0 ∷ 3 ∷ 0x07 ∷ 0x02 ∷ 0x00 ∷ 0x00 ∷ 0x00 ∷ 0x01 ∷ []) [] (replicate 29 0xFF)
@@ -56,15 +66,29 @@ request-step =
     messageStep asked listed-memories held-memories (record { outcome = Ok; checks = 0; micros = 0; written = 8 })
     (header 0x00 0xC0 3 2 ++ replicate 21 0xFF)
 
-pub bench-trace : Trace listed-memories (request-step ∷ [])
-unfolding Meets beforeOf firstOf anyOf ours boardHost activeHost placeOf rows rowOf onBoard classAt classOf clusterAt homeAt noEntry partsFrom namedIn entryTable entriesTable listTable verdictOf accepted entryIn withPart withParts noEntries entriesOf hasEntry isMaster isSecondary permitted answerAsked kindOf waitIn subjectOf senderWrong wordsMissing waitFailed admission byWords outcomeTable outcomeOf carriedOut silent recordAfter ackBytes bytesFor answerBytes answerOf waited reportOf listed freeOwn entryOf recordIn recordOf viewOf putIn stored afterMessage answerTo next byRow listedIn entryAt entriesIn someList setupIn wordsOf accessAfter recordsIn stateIn
-bench-trace = step {x = request-step} refl (record { report = refl; records = refl; buffer = refl }, refl) done
+bench-answered : MessageCall ours (accessAfter ours (replicate 129 0) benchList) (replicate 160 0) asked (3 ∷ replicate 159 0) (header 0x00 0xC0 3 2 ++ replicate 21 0xFF)
+    (record { outcome = Ok; checks = 0; micros = 0; written = 8 })
+unfolding tableOf ours ourDescription listsProcessor markIn rowIn classIn sharedCluster sharedIn homeIn boardOf firstOf anyOf boardHost activeHost placeOf rowOf onBoard classAt classOf homeAt noEntry partsFrom namedIn entryTable entriesTable listTable verdictOf accepted entryIn withPart withParts noEntries entriesOf hasEntry isMaster isSecondary permitted answerAsked kindOf waitIn subjectOf senderWrong wordsMissing waitFailed admission byWords outcomeTable outcomeOf carriedOut silent recordAfter ackBytes bytesFor answerBytes answerOf waited reportOf listed freeOwn entryOf recordIn recordOf viewOf putIn stored afterMessage answerTo next listedIn entryAt entriesIn someList setupIn wordsOf accessAfter recordsIn stateIn
+bench-answered = record { report = refl; records = refl; buffer = refl }
 
-pub on-the-bench : CodeNoninterference benchList bothR5
-unfolding anyOf allOf ours placeOf rowOf clusterAt clusterOf shareControl partsFrom namedIn clustersWhole
-on-the-bench = of-the-code benchList bothR5 refl refl
+pub bench-trace : Trace listed-memories (request-step ∷ [])
+unfolding Meets beforeOf
+bench-trace =
+    step {x = request-step} refl (
+      subst⁻¹
+          (λ (b : Board).
+          MessageCall b (accessAfter ours (replicate 129 0) benchList) (replicate 160 0) asked (3 ∷ replicate 159 0) (header 0x00 0xC0 3 2 ++ replicate 21 0xFF)
+          (record { outcome = Ok; checks = 0; micros = 0; written = 8 }))
+          start-read bench-answered,
+      refl,
+      refl,
+    ) done
+
+pub on-the-bench : CodeNoninterference ours benchList bothR5
+unfolding allFrom onBoard homeAt homeOf tableOf ours ourDescription listsProcessor markIn rowIn classIn sharedCluster sharedIn homeIn boardOf anyOf allOf placeOf rowOf shareControl partsFrom namedIn clustersWhole
+on-the-bench = of-the-code ours benchList bothR5 refl refl
 
 -- and to a list that names the cluster of 32 and 33, chosen whole
-pub on-the-cluster : CodeNoninterference clusterList (32 ∷ 33 ∷ [])
-unfolding anyOf allOf ours placeOf rowOf clusterAt clusterOf shareControl partsFrom namedIn clustersWhole
-on-the-cluster = of-the-code clusterList (32 ∷ 33 ∷ []) refl refl
+pub on-the-cluster : CodeNoninterference ours clusterList (32 ∷ 33 ∷ [])
+unfolding allFrom onBoard homeAt homeOf tableOf ours ourDescription listsProcessor markIn rowIn classIn sharedCluster sharedIn homeIn boardOf anyOf allOf placeOf rowOf shareControl partsFrom namedIn clustersWhole
+on-the-cluster = of-the-code ours clusterList (32 ∷ 33 ∷ []) refl refl

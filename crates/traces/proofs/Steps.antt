@@ -8,38 +8,48 @@ use lib.Seq.{take-append-seam}
 use Rattle.rules.specs.declared.Report.{Report}
 use Rattle.rules.specs.Answer.{reportOf}
 use Rattle.rules.specs.State.{Setup, Records, State, stored}
-use Rattle.rules.specs.Call.{list, afterMessage, Answer, answerTo, Lent, queryOf, offer, message, next}
+use Rattle.rules.specs.Call.{Offer, board, list, afterMessage, Answer, answerTo, Lent, queryOf, offer, message, next}
 use Rattle.rules.specs.Sequence.{run}
 use Rattle.noninterference.specs.Statement.{picked, answers}
 use Rattle.access.specs.Memory.{setupIn}
 use Rattle.records.specs.Memory.{stateIn, kept}
-use Rattle.manager.specs.Calls.{ListCall, MessageCall}
-use Rattle.traces.specs.Trace.{Memories, Step, listStep, messageStep, beforeOf, afterOf, callOf, Meets, Trace, done, step, endOf, callsOf}
+use Rattle.board.specs.Memory.{boardIn}
+use Rattle.manager.specs.Calls.{BoardCall, ListCall, MessageCall}
+use Rattle.traces.specs.Trace.{Memories, Step, boardStep, listStep, messageStep, beforeOf, afterOf, callOf, Meets, Trace, done, step, endOf, callsOf}
 use Rattle.traces.specs.Statement.{given}
 use Rattle.traces.proofs.Kept.{answer-kept, message-kept, offer-kept}
 
 -- the memories hold what is kept of a state
 abbrev pub Holds : Memories → State → Type 0
-Holds m s = stateIn (m .access) (m .records) ≡ kept s
+Holds m s = stateIn (boardIn (m .board)) (m .access) (m .records) ≡ kept s
 
 -- ---- one step
 
 module _ (s : State) (before after : Memories) (holds : Holds before s) where
-  list-holds : (bytes : List ℕ) {v : _} → ListCall (before .access) bytes (after .access) v → after .records ≡ before .records
-      → Holds after (next s (offer (list bytes)))
+  offer-holds : (o : Offer)
+      → stateIn (boardIn (after .board)) (after .access) (after .records) ≡ kept (next (stateIn (boardIn (before .board)) (before .access) (before .records)) (offer o))
+      → Holds after (next s (offer o))
   unfolding next
-  list-holds bytes meets same =
-      ap (stateIn (after .access)) same
-      ∙ meets .state (before .records)
-      ∙ ap (λ (t : State). kept (next t (offer (list bytes)))) holds
-      ∙ offer-kept s (list bytes)
+  offer-holds o left = left ∙ ap (λ (t : State). kept (next t (offer o))) holds ∙ offer-kept s o
+
+  board-holds : (bytes : List ℕ) {v : _} → BoardCall (before .board) (before .access) bytes (after .board) v
+      → after .access ≡ before .access → after .records ≡ before .records → Holds after (next s (offer (board bytes)))
+  board-holds bytes meets access records =
+      offer-holds (board bytes)
+      (ap₂ (stateIn (boardIn (after .board))) access records ∙ meets .state (before .records))
+
+  list-holds : (bytes : List ℕ) {v : _} → ListCall (boardIn (before .board)) (before .access) bytes (after .access) v
+      → after .board ≡ before .board → after .records ≡ before .records → Holds after (next s (offer (list bytes)))
+  list-holds bytes meets same records =
+      offer-holds (list bytes)
+      (ap₂ (λ (l m : List ℕ). stateIn (boardIn l) (after .access) m) same records ∙ meets .state (before .records))
 
   module _ (lent : Lent) {report : Report} {held : List ℕ}
-      (meets : MessageCall (before .access) (before .records) lent (after .records) held report) where
-    message-holds : after .access ≡ before .access → Holds after (next s (message lent))
+      (meets : MessageCall (boardIn (before .board)) (before .access) (before .records) lent (after .records) held report) where
+    message-holds : after .board ≡ before .board → after .access ≡ before .access → Holds after (next s (message lent))
     unfolding next afterMessage stored stateIn
-    message-holds same =
-        ap₂ (λ (u : Setup) (rs : Records). record { setup = u; records = rs }) (ap setupIn same) (meets .records)
+    message-holds same access =
+        ap₂ (λ (u : Setup) (rs : Records). record { setup = u; records = rs }) (ap₂ (λ (l a : List ℕ). setupIn (boardIn l) a) same access) (meets .records)
         ∙ ap (λ (t : State). next t (message lent)) holds
         ∙ message-kept s (queryOf lent)
 
@@ -47,7 +57,7 @@ module _ (s : State) (before after : Memories) (holds : Holds before s) where
     pub answer-told : record { report = report; bytes = take (report .written) held } ≡ answerTo s (queryOf lent)
     unfolding answerTo reportOf
     answer-told =
-        let there = answerTo (stateIn (before .access) (before .records)) (queryOf lent) in
+        let there = answerTo (stateIn (boardIn (before .board)) (before .access) (before .records)) (queryOf lent) in
         ap₂ (λ (r : Report) (bytes : List ℕ). record { report = r; bytes = take (r .written) bytes }) (meets .report) (meets .buffer)
         ∙ ap (λ (bytes : List ℕ). record { report = there .report; bytes = bytes }) (take-append-seam (there .bytes) (drop (length (there .bytes)) (lent .buffer)))
         ∙ ap (λ (t : State). answerTo t (queryOf lent)) holds
@@ -56,9 +66,14 @@ module _ (s : State) (before after : Memories) (holds : Holds before s) where
 -- a step that starts from memories that hold s
 pub step-holds : (x : Step) (s : State) → Meets x → Holds (beforeOf x) s → Holds (afterOf x) (next s (callOf x))
 unfolding Meets beforeOf afterOf callOf
-step-holds (listStep bytes before after verdict) s meets holds = list-holds s before after holds bytes (meets .0) (meets .1)
+step-holds (boardStep bytes before after verdict) s meets holds = board-holds s before after holds bytes (meets .0) (meets .1) (meets .2)
+step-holds (listStep bytes before after verdict) s meets holds = list-holds s before after holds bytes (meets .0) (meets .1) (meets .2)
 step-holds (messageStep lent before after report held) s meets holds =
-    message-holds s before after holds lent (meets .0) (meets .1)
+    message-holds s before after holds lent (meets .0) (meets .1) (meets .2)
+
+-- where two memories are one, they hold the same
+pub held-by : {m n : Memories} (s : State) → m ≡ n → Holds n s → Holds m s
+held-by s same holds = ap (λ (l : Memories). stateIn (boardIn (l .board)) (l .access) (l .records)) same ∙ holds
 
 -- ---- whole traces
 
@@ -67,7 +82,7 @@ pub trace-holds : {m : Memories} {xs : List Step} → Trace m xs → (s : State)
 unfolding endOf callsOf run
 trace-holds done s holds = holds
 trace-holds (step {x = x} starts meets rest) s holds =
-    trace-holds rest (next s (callOf x)) (step-holds x s meets (ap (λ (n : Memories). stateIn (n .access) (n .records)) starts ∙ holds))
+    trace-holds rest (next s (callOf x)) (step-holds x s meets (held-by s starts holds))
 
 -- what the picked steps gave are the rules' answers to the picks
 module _ (setup : Setup) (chosen : List ℕ) where
@@ -75,6 +90,7 @@ module _ (setup : Setup) (chosen : List ℕ) where
       → given setup chosen xs ≡ answers setup chosen (next s (callOf x)) (callsOf xs)
       → given setup chosen (x ∷ xs) ≡ answers setup chosen s (callOf x ∷ callsOf xs)
   unfolding given answers callOf Meets beforeOf
+  given-more (boardStep bytes before after verdict) xs s meets holds rest = rest
   given-more (listStep bytes before after verdict) xs s meets holds rest = rest
   given-more (messageStep lent before after report held) xs s meets holds rest =
       ap₂ (λ (a : Answer) (later : List Answer). cond (picked setup chosen (queryOf lent)) (a ∷ later) later)
@@ -86,7 +102,7 @@ module _ (setup : Setup) (chosen : List ℕ) where
   unfolding callsOf given answers
   trace-given done s holds = refl
   trace-given (step {x = x} {xs = xs} starts meets rest) s holds =
-      let from = ap (λ (n : Memories). stateIn (n .access) (n .records)) starts ∙ holds in
+      let from : Holds (beforeOf x) s = held-by s starts holds in
       given-more x xs s meets from (trace-given rest (next s (callOf x)) (step-holds x s meets from))
 
 -- a trace of two runs of steps is a trace of each

@@ -1,51 +1,55 @@
 -- Demand 3 of the code: traces of calls that meet the contracts of crate manager have it, since their memories hold the states of the
 -- rules, of which crate noninterference shows it. Assumes nothing.
 use Prim.Native.Nat.{ℕ}
-use mathlib.Core.Path.{_≡_, refl, sym, ap, ap₂, _∙_}
+use mathlib.Core.Path.{_≡_, refl, sym, subst, subst⁻¹, ap, _∙_}
 use mathlib.Core.Bool.{true, false}
 use mathlib.Core.List.{List, [], _∷_}
-use native.Mathlib.Nat.{lt-of-le-of-lt}
+use mathlib.Core.Logic.{⊎-elim}
+use lib.ListN.{replicate}
 use lib.Dec.{eqb}
-use borrow.Author.Tests.{ltb-true}
 use Rattle.rules.specs.declared.Report.{Report}
 use Rattle.rules.specs.declared.Verdict.the-variants.{Accepted}
-use Rattle.rules.specs.Table.{anyOf, allOf}
-use Rattle.rules.specs.Board.{ours, rows, rowOf, onBoard, homeAt}
-use Rattle.rules.specs.AccessList.{parts, namedIn, verdictOf, accepted}
+use Rattle.rules.specs.Table.{anyOf, allOf, tableOf}
+use Rattle.rules.specs.Board.{Board, rowOf}
+use Rattle.rules.specs.Description.{ours}
+use Rattle.rules.specs.Verdict.{accepted}
+use Rattle.rules.specs.AccessList.{parts, namedIn, verdictOf}
 use Rattle.rules.specs.Outcome.{carriedOut}
-use Rattle.rules.specs.State.{listed, State, joined, freeOwn, fresh, recordIn, recordOf}
-use Rattle.rules.specs.Call.{list, verdictTo, afterOffer, Answer, answerTo, Lent, queryOf, next}
-use Rattle.rules.specs.Sequence.{run, freeOrPermitted}
-use Rattle.rules.proofs.Tests.{allOf-member}
-use Rattle.rules.proofs.Homes.{home-within}
-use Rattle.rules.proofs.Entries.{named-on}
-use Rattle.rules.proofs.Sound.{first-accepted}
-use Rattle.noninterference.specs.Statement.{clustersWhole, answers, Noninterference}
-use Rattle.noninterference.proofs.Theorem.{freshly-loaded, no-trace}
+use Rattle.rules.specs.State.{listed, State, fresh, recordOf, stored}
+use Rattle.rules.specs.Call.{list, verdictTo, taken, afterOffer, afterMessage, Answer, answerTo, Lent, queryOf, Call, offer, message, next}
+use Rattle.rules.specs.Sequence.{run, freeOrPermitted, Good}
+use Rattle.rules.proofs.Tests.{decide, cond-true}
+use Rattle.rules.proofs.Sound.{offer-kept as kept-by-offer, first-accepted}
+use Rattle.noninterference.specs.Statement.{clustersWhole, answers, Noninterference, boardLeft}
+use Rattle.noninterference.proofs.Theorem.{left-sound, loaded-on, no-trace}
+use Rattle.board.specs.Memory.{boardIn}
+use Rattle.boards.proofs.Started.{start-read}
 use Rattle.access.specs.Memory.{someList, setupIn, keptSetup}
 use Rattle.loading.proofs.Offers.{verdict-told}
 use Rattle.records.specs.Memory.{ownAt, controlAt, recordAt, recordsIn, stateIn, kept}
-use Rattle.records.proofs.LentMemory.{byRow-here, zeros-fresh}
+use Rattle.records.proofs.LentMemory.{zeros-fresh}
 use Rattle.manager.specs.Calls.{ListCall}
-use Rattle.traces.specs.Trace.{Memories, zeros, Step, listStep, messageStep, beforeOf, afterOf, callOf, Meets, Trace, step, endOf, callsOf, Loaded}
+use Rattle.traces.specs.Trace.{Memories, started, Step, listStep, messageStep, beforeOf, afterOf, callOf, Meets, Trace, step, endOf, callsOf, Loaded}
 use Rattle.traces.specs.Statement.{setupOf, given, OfTheCode}
 use Rattle.traces.proofs.Kept.{record-kept, verdict-kept}
-use Rattle.traces.proofs.Steps.{Holds, answer-told, step-holds, trace-holds, trace-given, trace-first, trace-then}
+use Rattle.traces.proofs.Steps.{Holds, held-by, answer-told, step-holds, trace-holds, trace-given, trace-first, trace-then}
 
--- zeros hold the fresh state
-zeros-hold : Holds zeros (fresh ours)
+-- what a fresh manager's memories hold
+started-hold : Holds started (fresh ours)
 unfolding kept keptSetup fresh someList listed
-zeros-hold = zeros-fresh
+started-hold = ap (λ (b : Board). stateIn b (replicate 129 0) (replicate 160 0)) start-read ∙ zeros-fresh ours
 
--- the record words of a processor on the board are its record in the state that the memories hold
-words-at : (m : Memories) (s : State) (p : ℕ) → Holds m s → onBoard ours p ≡ true → recordAt (m .records) (rowOf ours p) ≡ recordOf s p
-unfolding stateIn setupIn recordOf recordIn recordsIn onBoard
-words-at m s p holds on =
-    let row = rowOf ours p in
-    let inside = ltb-true row (rows ours) on in
-    ap₂ joined
-    (sym (byRow-here (ownAt (m .records)) freeOwn (rows ours) row inside))
-    (sym (byRow-here (controlAt (m .records)) 0 (rows ours) (homeAt ours row) (lt-of-le-of-lt (home-within ours row) inside)))
+-- memories that hold a state have its board in force
+board-held : (m : Memories) (s : State) → Holds m s → boardIn (m .board) ≡ s .setup .board
+unfolding stateIn setupIn kept keptSetup
+board-held m s holds = ap (λ (t : State). t .setup .board) holds
+
+-- the record words of a processor are its record in the state that the memories hold
+words-at : (m : Memories) (s : State) (p : ℕ) → Holds m s
+    → recordAt (s .setup .board) (m .records) (rowOf (s .setup .board) p) ≡ recordOf s p
+unfolding stateIn setupIn recordOf
+words-at m s p holds =
+    ap (λ (b : Board). recordAt b (m .records) (rowOf b p)) (sym (board-held m s holds))
     ∙ ap (λ (t : State). recordOf t p) holds
     ∙ record-kept s p
 
@@ -53,70 +57,103 @@ words-at m s p holds on =
 
 -- the last step: the state before it accepts the list, and so is fresh
 module _ (bytes : List ℕ) (before m : Memories) (s : State) (holds : Holds before s)
-    (meets : ListCall (before .access) bytes (m .access) Accepted) where
+    (meets : ListCall (boardIn (before .board)) (before .access) bytes (m .access) Accepted) where
   accepts : accepted (verdictTo s (list bytes)) ≡ true
   unfolding accepted stateIn
   accepts =
       ap accepted
       (sym (verdict-kept s (list bytes))
       ∙ ap (λ (t : State). verdictTo t (list bytes)) (sym holds)
-      ∙ verdict-told (before .access) bytes (recordsIn (before .records))
+      ∙ verdict-told (boardIn (before .board)) (before .access) bytes (recordsIn (before .records))
       ∙ sym (meets .verdict))
 
--- memories that hold the state which the list leaves on a fresh board
-pub record Begun (bytes : List ℕ) (m : Memories) : Type 0 where
-  pub good : accepted (verdictOf ours false bytes) ≡ true
-  pub holds : Holds m (afterOffer (fresh ours) (list bytes))
+-- memories that hold the state which the list leaves on a fresh board, one that a description can give
+pub record Begun (b : Board) (bytes : List ℕ) (m : Memories) : Type 0 where
+  pub on-board : Good b
+  pub good : accepted (verdictOf b false bytes) ≡ true
+  pub holds : Holds m (afterOffer (fresh b) (list bytes))
 
-fresh-verdict : (bytes : List ℕ) → verdictTo (fresh ours) (list bytes) ≡ verdictOf ours false bytes
+fresh-verdict : (b : Board) (bytes : List ℕ) → verdictTo (fresh b) (list bytes) ≡ verdictOf b false bytes
 unfolding verdictTo fresh listed
-fresh-verdict bytes = refl
+fresh-verdict b bytes = refl
+
+fresh-board : (b : Board) → fresh b .setup .board ≡ b
+unfolding fresh
+fresh-board b = refl
+
+-- an offer of a list leaves the board
+list-board : (s : State) (bytes : List ℕ) → afterOffer s (list bytes) .setup .board ≡ s .setup .board
+unfolding afterOffer taken
+list-board s bytes = ⊎-elim (λ t. rw t) (λ f. rw f) (decide (accepted (verdictTo s (list bytes))))
 
 begun-from : (bytes : List ℕ) (earlier : List Step) (before m : Memories)
-    → Trace zeros earlier → Trace (endOf zeros earlier) (listStep bytes before m Accepted ∷ []) → Begun bytes m
+    → Trace started earlier → Trace (endOf started earlier) (listStep bytes before m Accepted ∷ []) → Begun (boardIn (m .board)) bytes m
 unfolding Meets beforeOf afterOf endOf callsOf callOf run next
 begun-from bytes earlier before m first (step starts meets rest) =
-    let s = run (fresh ours) (callsOf earlier) in
-    let holds : Holds before s = ap (λ (n : Memories). stateIn (n .access) (n .records)) starts ∙ trace-holds first (fresh ours) zeros-hold in
+    let calls = callsOf earlier in
+    let s = run (fresh ours) calls in
+    let holds : Holds before s = held-by s starts (trace-holds first (fresh ours) started-hold) in
     let taken = accepts bytes before m s holds (meets .0) in
-    let was : s ≡ fresh ours = no-trace ours (callsOf earlier) (first-accepted s (list bytes) taken) in
+    let was : s ≡ fresh (boardLeft ours calls) = no-trace calls (first-accepted s (list bytes) taken) in
+    let after = step-holds (listStep bytes before m Accepted) s meets holds in
+    let in-force : boardIn (m .board) ≡ s .setup .board = board-held m (afterOffer s (list bytes)) after ∙ list-board s bytes in
+    let is : s ≡ fresh (boardIn (m .board)) =
+    was ∙ ap fresh (sym (in-force ∙ ap (λ (t : State). t .setup .board) was ∙ fresh-board (boardLeft ours calls)))
+    in
     record {
-      good = ap accepted (sym (fresh-verdict bytes)) ∙ ap (λ (t : State). accepted (verdictTo t (list bytes))) (sym was) ∙ taken;
-      holds = step-holds (listStep bytes before m Accepted) s meets holds ∙ ap (λ (t : State). kept (afterOffer t (list bytes))) was;
+      on-board = subst⁻¹ Good in-force (left-sound calls .board-good);
+      good = ap accepted (sym (fresh-verdict (boardIn (m .board)) bytes)) ∙ ap (λ (t : State). accepted (verdictTo t (list bytes))) (sym is) ∙ taken;
+      holds = after ∙ ap (λ (t : State). kept (afterOffer t (list bytes))) is;
     }
 
-begun : {bytes : List ℕ} {m : Memories} → Loaded bytes m → Begun bytes m
-begun {bytes} {m} loaded =
+begun : {b : Board} {bytes : List ℕ} {m : Memories} → Loaded b bytes m → Begun b bytes m
+begun {b} {bytes} {m} loaded =
     let last = listStep bytes (loaded .before) m Accepted ∷ [] in
-    begun-from bytes (loaded .earlier) (loaded .before) m
+    subst (λ (c : Board). Begun c bytes m) (loaded .in-force)
+    (begun-from bytes (loaded .earlier) (loaded .before) m
     (trace-first (loaded .earlier) last (loaded .trace))
-    (trace-then (loaded .earlier) last (loaded .trace))
+    (trace-then (loaded .earlier) last (loaded .trace)))
+
+-- once a list was accepted the board stays
+board-stays : (cs : List Call) (s : State) → listed (s .setup .source) ≡ true → run s cs .setup .board ≡ s .setup .board
+unfolding run next afterMessage stored
+board-stays [] s is = refl
+board-stays (offer o ∷ cs) s is = ap (λ (t : State). run t cs .setup .board) (kept-by-offer s o is) ∙ board-stays cs s is
+board-stays (message lent ∷ cs) s is = board-stays cs (afterMessage s (queryOf lent)) is
 
 -- ---- the theorem
 
-module _ (bytes chosen : List ℕ) (named : allOf (namedIn (parts bytes)) chosen ≡ true) (whole : clustersWhole ours chosen ≡ true) where
+module _ (b : Board) (bytes chosen : List ℕ) (named : allOf (namedIn (parts bytes)) chosen ≡ true) (whole : clustersWhole b chosen ≡ true) where
   abbrev start : State
-  start = afterOffer (fresh ours) (list bytes)
+  start = afterOffer (fresh b) (list bytes)
 
-  module _ {m : Memories} (loaded : Loaded bytes m) where
+  module _ {m : Memories} (loaded : Loaded b bytes m) where
+    start-listed : listed (start .setup .source) ≡ true
+    unfolding afterOffer taken listed
+    start-listed =
+        ap (λ (t : State). listed (t .setup .source))
+        (cond-true (taken (fresh b) (list bytes)) (fresh b) (ap accepted (fresh-verdict b bytes) ∙ begun loaded .good))
+
+    start-board : start .setup .board ≡ b
+    start-board = list-board (fresh b) bytes ∙ fresh-board b
+
     by-rules : Noninterference start chosen
-    by-rules = freshly-loaded ours bytes chosen (begun loaded .good) named whole
+    by-rules = loaded-on b bytes chosen (begun loaded .good) (begun loaded .on-board) named whole
 
     -- a chosen processor's record words are its record by the rules
     module _ {steps : List Step} (trace : Trace m steps) where
-      words-are : (p : ℕ) → anyOf (eqb p) chosen ≡ true
-          → recordAt (endOf m steps .records) (rowOf ours p) ≡ recordOf (run start (callsOf steps)) p
-      words-are p chose =
-          words-at (endOf m steps) (run start (callsOf steps)) p (trace-holds trace start (begun loaded .holds))
-          (named-on ours bytes p (begun loaded .good) (allOf-member (namedIn (parts bytes)) chosen p named chose))
+      words-are : (p : ℕ) → recordAt b (endOf m steps .records) (rowOf b p) ≡ recordOf (run start (callsOf steps)) p
+      words-are p =
+          ap (λ (c : Board). recordAt c (endOf m steps .records) (rowOf c p)) (sym (board-stays (callsOf steps) start start-listed ∙ start-board))
+          ∙ words-at (endOf m steps) (run start (callsOf steps)) p (trace-holds trace start (begun loaded .holds))
 
-      given-are : given (setupOf bytes) chosen steps ≡ answers (setupOf bytes) chosen start (callsOf steps)
-      given-are = trace-given (setupOf bytes) chosen trace start (begun loaded .holds)
+      given-are : given (setupOf b bytes) chosen steps ≡ answers (setupOf b bytes) chosen start (callsOf steps)
+      given-are = trace-given (setupOf b bytes) chosen trace start (begun loaded .holds)
 
       permitted-are : (p : ℕ) → anyOf (eqb p) chosen ≡ true
-          → freeOrPermitted (setupOf bytes) p (recordAt (endOf m steps .records) (rowOf ours p)) ≡ true
+          → freeOrPermitted (setupOf b bytes) p (recordAt b (endOf m steps .records) (rowOf b p)) ≡ true
       permitted-are p chose =
-          ap (freeOrPermitted (setupOf bytes) p) (words-are p chose) ∙ by-rules .always-permitted (callsOf steps) p chose
+          ap (freeOrPermitted (setupOf b bytes) p) (words-are p) ∙ by-rules .always-permitted (callsOf steps) p chose
 
     -- a message after any steps reports what the rules answer after their calls
     last-told : (steps : List Step) (lent : Lent) (before after : Memories) (report : Report) (held : List ℕ)
@@ -125,28 +162,28 @@ module _ (bytes chosen : List ℕ) (named : allOf (namedIn (parts bytes)) chosen
     unfolding Meets beforeOf
     last-told steps lent before after report held first (step starts meets rest) =
         let holds : Holds before (run start (callsOf steps)) =
-        ap (λ (n : Memories). stateIn (n .access) (n .records)) starts ∙ trace-holds first start (begun loaded .holds)
+        held-by (run start (callsOf steps)) starts (trace-holds first start (begun loaded .holds))
         in
         ap (λ (a : Answer). a .report) (answer-told (run start (callsOf steps)) before after holds lent (meets .0))
 
 pub of-the-code : OfTheCode
-of-the-code bytes chosen named whole =
+of-the-code b bytes chosen named whole =
     record {
       same-answers =
           λ {m} {n} one other {these} {those} t u same.
-          given-are bytes chosen named whole one t
-          ∙ by-rules bytes chosen named whole one .same-answers (callsOf these) (callsOf those) same
-          ∙ sym (given-are bytes chosen named whole other u);
+          given-are b bytes chosen named whole one t
+          ∙ by-rules b bytes chosen named whole one .same-answers (callsOf these) (callsOf those) same
+          ∙ sym (given-are b bytes chosen named whole other u);
       same-records =
           λ {m} {n} one other {these} {those} t u same p chose.
-          words-are bytes chosen named whole one t p chose
-          ∙ by-rules bytes chosen named whole one .same-records (callsOf these) (callsOf those) same p chose
-          ∙ sym (words-are bytes chosen named whole other u p chose);
-      always-permitted = λ loaded trace p chose. permitted-are bytes chosen named whole loaded trace p chose;
+          words-are b bytes chosen named whole one t p
+          ∙ by-rules b bytes chosen named whole one .same-records (callsOf these) (callsOf those) same p chose
+          ∙ sym (words-are b bytes chosen named whole other u p);
+      always-permitted = λ loaded trace p chose. permitted-are b bytes chosen named whole loaded trace p chose;
       outsider-refused =
           λ loaded steps lent before after report held trace about out.
           let last = messageStep lent before after report held ∷ [] in
           ap (λ (r : Report). carriedOut (r .outcome))
-          (last-told bytes chosen named whole loaded steps lent before after report held (trace-first steps last trace) (trace-then steps last trace))
-          ∙ by-rules bytes chosen named whole loaded .outsider-refused (callsOf steps) (queryOf lent) about out;
+          (last-told b bytes chosen named whole loaded steps lent before after report held (trace-first steps last trace) (trace-then steps last trace))
+          ∙ by-rules b bytes chosen named whole loaded .outsider-refused (callsOf steps) (queryOf lent) about out;
     }

@@ -1,5 +1,5 @@
--- Traces of the code: calls one after the other, over the two memories that the caller lends, where every call meets the contract of
--- crate manager and nobody else writes to the memories. Whatever code meets the two contracts has these traces. Assumes nothing.
+-- Traces of the code: calls one after the other, over the three memories that the caller lends, where every call meets the contract of
+-- crate manager and nobody else writes to the memories. Whatever code meets the contracts has these traces. Assumes nothing.
 use Prim.Native.Nat.{ℕ}
 use mathlib.Core.Path.{_≡_}
 use mathlib.Core.List.{List, [], _∷_, _++_}
@@ -7,41 +7,53 @@ use lib.ListN.{replicate}
 use Rattle.rules.specs.declared.Report.{Report}
 use Rattle.rules.specs.declared.Verdict.{Verdict}
 use Rattle.rules.specs.declared.Verdict.the-variants.{Accepted}
-use Rattle.rules.specs.Call.{list, Lent, Call, offer, message}
-use Rattle.manager.specs.Calls.{ListCall, MessageCall}
+use Rattle.rules.specs.Board.{Board}
+use Rattle.rules.specs.Description.{ours}
+use Rattle.rules.specs.Call.{board, list, Lent, Call, offer, message}
+use Rattle.board.specs.Memory.{boardIn, boardBytes}
+use Rattle.manager.specs.Calls.{BoardCall, ListCall, MessageCall}
 
--- the access memory and the record memory
+-- the board memory, the access memory and the record memory
 pub record Memories : Type 0 where
+  pub board : List ℕ
   pub access : List ℕ
   pub records : List ℕ
 
--- a fresh manager's
-abbrev pub zeros : Memories
-zeros = record { access = replicate 17 0; records = replicate 20 0 }
+-- a fresh manager's: what the start function leaves, and zeros
+abbrev pub started : Memories
+started = record { board = boardBytes ours; access = replicate 129 0; records = replicate 160 0 }
 
 -- one call: what it was lent, the memories before and after it, and what it gave: a verdict, or a report and what the buffer holds
 pub data Step : Type 0 where
+  boardStep : List ℕ → Memories → Memories → Verdict → Step
   listStep : List ℕ → Memories → Memories → Verdict → Step
   messageStep : Lent → Memories → Memories → Report → List ℕ → Step
 
 unfoldable pub beforeOf : Step → Memories
+beforeOf (boardStep bytes before after verdict) = before
 beforeOf (listStep bytes before after verdict) = before
 beforeOf (messageStep lent before after report held) = before
 
 unfoldable pub afterOf : Step → Memories
+afterOf (boardStep bytes before after verdict) = after
 afterOf (listStep bytes before after verdict) = after
 afterOf (messageStep lent before after report held) = after
 
 unfoldable pub callOf : Step → Call
+callOf (boardStep bytes before after verdict) = offer (board bytes)
 callOf (listStep bytes before after verdict) = offer (list bytes)
 callOf (messageStep lent before after report held) = message lent
 
--- a step meets the contract of its call. The list call does not get the records, and the message call only borrows the access memory
+-- a step meets the contract of its call, and what the call does not get, or only borrows, stays
 unfoldable pub Meets : Step → Type 0
+Meets (boardStep bytes before after verdict) =
+    BoardCall (before .board) (before .access) bytes (after .board) verdict × (after .access ≡ before .access) × (after .records ≡ before .records)
 Meets (listStep bytes before after verdict) =
-    ListCall (before .access) bytes (after .access) verdict × (after .records ≡ before .records)
+    ListCall (boardIn (before .board)) (before .access) bytes (after .access) verdict
+    × (after .board ≡ before .board) × (after .records ≡ before .records)
 Meets (messageStep lent before after report held) =
-    MessageCall (before .access) (before .records) lent (after .records) held report × (after .access ≡ before .access)
+    MessageCall (boardIn (before .board)) (before .access) (before .records) lent (after .records) held report
+    × (after .board ≡ before .board) × (after .access ≡ before .access)
 
 -- steps that meet their contracts, from memories m on, each over what the last one left
 pub data Trace : Memories → List Step → Type 0 where
@@ -57,8 +69,10 @@ unfoldable pub callsOf : List Step → List Call
 callsOf [] = []
 callsOf (x ∷ xs) = callOf x ∷ callsOf xs
 
--- memories in which a list has just been accepted: a trace from zeros leads there, of which the last step accepted that list
-pub record Loaded (bytes : List ℕ) (m : Memories) : Type 0 where
+-- memories in which a list has just been accepted on board b: a trace from a fresh manager's leads there, of which the last step accepted that
+-- list, and b is in force
+pub record Loaded (b : Board) (bytes : List ℕ) (m : Memories) : Type 0 where
   pub earlier : List Step
   pub before : Memories
-  pub trace : Trace zeros (earlier ++ (listStep bytes before m Accepted ∷ []))
+  pub trace : Trace started (earlier ++ (listStep bytes before m Accepted ∷ []))
+  pub in-force : boardIn (m .board) ≡ b

@@ -5,6 +5,7 @@ ghost use mathlib.Core.Path.{_≡_};
 ghost use mathlib.Core.Bool.{cond};
 ghost use Rattle.rules.specs.declared.Outcome.the-variants.{N9, Ok};
 ghost use Rattle.rules.specs.Wait.{ranOut, checksOf, microsOf};
+ghost use Rattle.board.specs.Memory.{boardIn};
 ghost use Rattle.operations.specs.Operation.{asked, WaitsForStatus};
 use access::is_permitted;
 use board::ROWS;
@@ -45,17 +46,23 @@ fn waited(w: Wait, status: &[u32]) -> Decision
 
 // Wait status: the sender is permitted, the wait asks for something, and there are as many status
 // words as it may check. No record changes.
-pub fn wait_status(access: &[u16], channel: u8, message: &[u8], status: &[u32]) -> Decision
-    ensures { λ r. ⌜ WaitsForStatus (now (access .entry)) (asked channel (now (message .entry)) (now (status .entry))) r ⌝ }
+pub fn wait_status(
+    board: &[u8; 576],
+    access: &[u16],
+    channel: u8,
+    message: &[u8],
+    status: &[u32],
+) -> Decision
+    ensures { λ r. ⌜ WaitsForStatus (boardIn (now (board .entry))) (now (access .entry)) (asked channel (now (message .entry)) (now (status .entry))) r ⌝ }
 {
     if message.len() < 29 {
         return unwaited(Outcome::N4);
     }
-    let row = row_in(message);
+    let row = row_in(board, message);
     if ROWS <= row {
         return unwaited(Outcome::N6);
     }
-    if !is_permitted(access, row, channel as u16) {
+    if !is_permitted(board, access, row, channel as u16) {
         return unwaited(Outcome::N7);
     }
     let w = wait_in(message);

@@ -1,5 +1,6 @@
 // Get status. The function tests the rows of document 01's outcome table from N4 on, in its order; the
 // rows above are passed when it is called. No record changes, so it gets none.
+ghost use Rattle.board.specs.Memory.{boardIn};
 ghost use Rattle.operations.specs.Operation.{asked, ReadsStatus};
 use access::is_permitted;
 use board::ROWS;
@@ -7,17 +8,23 @@ use operations::row_in;
 use rules::Outcome;
 
 // Get status: the sender is permitted, and there is a status word. No record changes.
-pub fn get_status(access: &[u16], channel: u8, message: &[u8], status: &[u32]) -> Outcome
-    ensures { λ r. ⌜ ReadsStatus (now (access .entry)) (asked channel (now (message .entry)) (now (status .entry))) r ⌝ }
+pub fn get_status(
+    board: &[u8; 576],
+    access: &[u16],
+    channel: u8,
+    message: &[u8],
+    status: &[u32],
+) -> Outcome
+    ensures { λ r. ⌜ ReadsStatus (boardIn (now (board .entry))) (now (access .entry)) (asked channel (now (message .entry)) (now (status .entry))) r ⌝ }
 {
     if message.len() < 9 {
         return Outcome::N4;
     }
-    let row = row_in(message);
+    let row = row_in(board, message);
     if ROWS <= row {
         return Outcome::N6;
     }
-    if !is_permitted(access, row, channel as u16) {
+    if !is_permitted(board, access, row, channel as u16) {
         return Outcome::N7;
     }
     if status.len() == 0 {

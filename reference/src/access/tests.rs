@@ -14,8 +14,12 @@ fn list_of(entries: &[(usize, [u8; 9])]) -> Vec<u8> {
     list
 }
 
+fn accept(access: &mut AccessMemory, list: &[u8]) -> Result<(), ListFault> {
+    accept_list(&Board::first(), access, list)
+}
+
 fn verdict(list: &[u8]) -> Result<(), ListFault> {
-    accept_list(&mut [0; ACCESS_WORDS], list)
+    accept(&mut [0; ACCESS_WORDS], list)
 }
 
 fn verdict_of(entries: &[(usize, [u8; 9])]) -> Result<(), ListFault> {
@@ -26,8 +30,9 @@ fn verdict_of(entries: &[(usize, [u8; 9])]) -> Result<(), ListFault> {
 fn accepted_list_rewrites_every_word() {
     let mut access = [0x5A5A; ACCESS_WORDS];
     access[0] = 0;
-    assert_eq!(accept_list(&mut access, &list_of(&[(0, ONE), (31, TWO)])), Ok(()));
-    assert_eq!(access, [1, 3, 5, 0, 0, 3, 6, 10, 0, 0, 0, 0, 0, 0, 0, 0, 0]);
+    assert_eq!(accept(&mut access, &list_of(&[(0, ONE), (31, TWO)])), Ok(()));
+    assert_eq!(access[..9], [1, 3, 5, 0, 0, 3, 6, 10, 0]);
+    assert_eq!(access[9..], [0; 120]);
 }
 
 #[test]
@@ -36,7 +41,7 @@ fn refused_list_changes_nothing() {
     access[0] = 0;
     let before = access;
     let bad = [2, 3, 0, 7, 0, 0, 0, 0, 0];
-    assert_eq!(accept_list(&mut access, &list_of(&[(0, ONE), (1, bad)])), Err(ListFault::A8));
+    assert_eq!(accept(&mut access, &list_of(&[(0, ONE), (1, bad)])), Err(ListFault::A8));
     assert_eq!(access, before);
 }
 
@@ -45,8 +50,8 @@ fn any_nonzero_first_word_gives_a1() {
     for word in [1, 2, 0x100, 0x8000] {
         let mut access = [0; ACCESS_WORDS];
         access[0] = word;
-        assert_eq!(accept_list(&mut access, &list_of(&[])), Err(ListFault::A1));
-        assert_eq!(accept_list(&mut access, &[]), Err(ListFault::A1));
+        assert_eq!(accept(&mut access, &list_of(&[])), Err(ListFault::A1));
+        assert_eq!(accept(&mut access, &[]), Err(ListFault::A1));
     }
 }
 
@@ -97,8 +102,9 @@ fn unused_entries_are_not_looked_at() {
 #[test]
 fn permission_with_and_without_entry() {
     let mut access = [0; ACCESS_WORDS];
-    accept_list(&mut access, &list_of(&[(0, ONE)])).unwrap();
-    let permitted = |row| (0..300).filter(|&h| is_permitted(&access, row, h)).collect();
+    accept(&mut access, &list_of(&[(0, ONE)])).unwrap();
+    let board = Board::first();
+    let permitted = |row| (0..300).filter(|&h| is_permitted(&board, &access, row, h)).collect();
     let with_entry: Vec<u16> = permitted(0);
     let open: Vec<u16> = permitted(3);
     assert_eq!(with_entry, [3, 5]);
@@ -112,7 +118,30 @@ fn odd_memory_is_compared_by_full_words() {
     let mut access = [0; ACCESS_WORDS];
     row_words_mut(&mut access, 1).copy_from_slice(&[266, 7, 0, 0]);
     row_words_mut(&mut access, 2).copy_from_slice(&[0, 7, 3, 0]);
-    assert!(!is_permitted(&access, 1, 10) && is_permitted(&access, 1, 7));
-    assert!(!is_permitted(&access, 1, 0));
-    assert!(!is_permitted(&access, 2, 7) && is_permitted(&access, 2, 13));
+    let permitted = |row, host| is_permitted(&Board::first(), &access, row, host);
+    assert!(!permitted(1, 10) && permitted(1, 7) && !permitted(1, 0));
+    assert!(!permitted(2, 7) && permitted(2, 13));
+}
+
+/// On such a board a repeat is still one of a number, and the later entry has the row.
+#[test]
+fn two_processors_on_one_row() {
+    let mut board = Board::first();
+    board.0[256 + 2] = 0;
+    let mut access = [0; ACCESS_WORDS];
+    let list = list_of(&[(3, ONE), (9, TWO)]);
+    assert_eq!(accept_list(&board, &mut access, &list), Ok(()));
+    assert_eq!(access[..9], [1, 3, 6, 10, 0, 0, 0, 0, 0]);
+    let list = list_of(&[(3, ONE), (9, TWO), (10, ONE)]);
+    assert_eq!(accept_list(&board, &mut [0; ACCESS_WORDS], &list), Err(ListFault::A6));
+}
+
+#[test]
+fn processor_0_is_unused_on_every_board() {
+    let mut board = Board::first();
+    board.0[256] = 5;
+    let mut access = [0; ACCESS_WORDS];
+    let list = list_of(&[(0, [0, 3, 0, 0, 0, 0, 0, 0, 0])]);
+    assert_eq!(accept_list(&board, &mut access, &list), Ok(()));
+    assert_eq!(access[1..], [0; 128]);
 }

@@ -9,7 +9,9 @@ use pomrozek_reference::bench::cases;
 use pomrozek_reference::harness::cases::{recording_of, run_case, Model};
 use pomrozek_reference::harness::coverage::Coverage;
 use pomrozek_reference::harness::edges::edge_recordings;
-use pomrozek_reference::harness::library::{compare_lists, compare_messages, StaticLibrary};
+use pomrozek_reference::harness::library::{
+    compare_boards, compare_lists, compare_messages, compare_starts, StaticLibrary,
+};
 use pomrozek_reference::harness::program::{first_difference, keep, run};
 use pomrozek_reference::harness::recordings::recording;
 
@@ -18,6 +20,8 @@ const USAGE: &str = "usage: crosscheck --replay PROGRAM [--seed N] [--recordings
 const RECORDINGS: u64 = 2400;
 const LIBRARY_MESSAGES: u64 = 400_000;
 const LIBRARY_LISTS: u64 = 40_000;
+const LIBRARY_BOARDS: u64 = 40_000;
+const LIBRARY_STARTS: u64 = 1_000;
 
 /// Bytes fed to the program at once: mostly all of them, sometimes so few that reads come short.
 const PIECES: [usize; 5] = [usize::MAX, usize::MAX, usize::MAX, 1000, 7];
@@ -84,7 +88,7 @@ fn check(options: &Options) -> Result<String, String> {
     if !gaps.concat().is_empty() {
         return Err(format!("not reached, or not possible\n{}", gaps.concat().join("\n")));
     }
-    let calls = called.message_total() + called.list_total();
+    let calls = called.message_total() + called.offer_total() + LIBRARY_STARTS;
     let messages = replayed.message_total();
     Ok(format!("{recordings} recordings, {messages} messages, {calls} library calls"))
 }
@@ -104,7 +108,7 @@ fn check_cases(replay: &Path) -> Result<(), String> {
         let given = run(replay, &recording, usize::MAX)
             .map_err(|error| format!("{}: {error}", replay.display()))?;
         if let Some((line, expected, given)) = first_difference(expected.as_bytes(), &given) {
-            let name = case.name;
+            let name = &case.name;
             return Err(format!("{name}, line {line}: expected {expected}, given {given}"));
         }
     }
@@ -128,7 +132,7 @@ fn check_recordings(options: &Options) -> Result<(u64, Coverage), String> {
             return Err(describe(options.seed, number as u64, &recording, difference));
         }
     }
-    println!("recordings: {count}; not asked/asked by outcome:\n{}", coverage.table());
+    println!("recordings: {count}; not asked/asked by outcome:\n{}", coverage.table(false));
     println!("bad record {}, cut record {}", coverage.bad_records, coverage.cut_records);
     Ok((count, coverage))
 }
@@ -149,8 +153,10 @@ fn describe(
 /// Calls to the static library.
 fn check_library(seed: u64) -> Result<Coverage, String> {
     let mut coverage = Coverage::default();
+    compare_starts(seed, LIBRARY_STARTS)?;
+    compare_boards(seed, LIBRARY_BOARDS, &mut coverage)?;
     compare_messages(seed, LIBRARY_MESSAGES, &mut coverage)?;
     compare_lists(seed, LIBRARY_LISTS, &mut coverage)?;
-    println!("library calls, not asked/asked by outcome:\n{}", coverage.table());
+    println!("library calls, not asked/asked by outcome:\n{}", coverage.table(true));
     Ok(coverage)
 }

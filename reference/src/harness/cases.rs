@@ -2,20 +2,29 @@
 
 use crate::access::{accept_list, AccessMemory, ACCESS_WORDS};
 use crate::bench::{Case, Step};
+use crate::board::Board;
+use crate::description::take_board;
 use crate::harness::recordings::{field, message_field, status_field};
-use crate::manager::{handle, Call};
+use crate::manager::{handle, Call, Setup};
 use crate::message::ANSWER_BYTES;
 use crate::record::{RecordMemory, RECORD_WORDS};
-use crate::session::{write_line, Event, TAG_LIST};
+use crate::session::{write_line, Event, TAG_BOARD, TAG_LIST};
 
-/// What a manager remembers: zeros at the start.
+/// What a manager remembers: at the start the first board, and zeros.
 pub struct Memory {
+    pub board: Board,
     pub access: AccessMemory,
     pub records: RecordMemory,
 }
 
-/// The two calls, whoever carries them out, with the lines that tell of them.
+/// The calls, whoever carries them out, with the lines that tell of them.
 pub trait Calls {
+    /// The board that stands at the start.
+    fn start(&self) -> Board;
+
+    /// Takes a description and gives its line.
+    fn board(&self, memory: &mut Memory, description: &[u8]) -> String;
+
     /// Takes a list and gives its line.
     fn list(&self, memory: &mut Memory, list: &[u8]) -> String;
 
@@ -27,12 +36,21 @@ pub trait Calls {
 pub struct Model;
 
 impl Calls for Model {
+    fn start(&self) -> Board {
+        Board::first()
+    }
+
+    fn board(&self, memory: &mut Memory, description: &[u8]) -> String {
+        line_of(&Event::Board(take_board(&mut memory.board, &memory.access, description)))
+    }
+
     fn list(&self, memory: &mut Memory, list: &[u8]) -> String {
-        line_of(&Event::List(accept_list(&mut memory.access, list)))
+        line_of(&Event::List(accept_list(&memory.board, &mut memory.access, list)))
     }
 
     fn message(&self, memory: &mut Memory, call: &Call, answer: &mut [u8]) -> String {
-        let report = handle(&memory.access, &mut memory.records, call, answer);
+        let setup = Setup { board: &memory.board, access: &memory.access };
+        let report = handle(setup, &mut memory.records, call, answer);
         let mut bytes = [0; ANSWER_BYTES];
         bytes[..report.written].copy_from_slice(&answer[..report.written]);
         line_of(&Event::Message(report, bytes))
@@ -47,10 +65,12 @@ fn line_of(event: &Event) -> String {
 
 /// Runs a case from the start; says which step gave another line than it has to.
 pub fn run_case(calls: &impl Calls, case: &Case) -> Result<(), String> {
-    let mut memory = Memory { access: [0; ACCESS_WORDS], records: [0; RECORD_WORDS] };
+    let board = calls.start();
+    let mut memory = Memory { board, access: [0; ACCESS_WORDS], records: [0; RECORD_WORDS] };
     let mut status: &[u32] = &[];
     for (number, step) in case.steps.iter().enumerate() {
         let (given, expected) = match step {
+            Step::Board { description, line } => (calls.board(&mut memory, description), line),
             Step::List { list, line } => (calls.list(&mut memory, list), line),
             Step::Status { words } => {
                 status = words;
@@ -77,6 +97,7 @@ pub fn recording_of(case: &Case) -> (Vec<u8>, String) {
     let mut lines = String::new();
     for step in &case.steps {
         let (bytes, line) = match step {
+            Step::Board { description, line } => (field(TAG_BOARD, description), *line),
             Step::List { list, line } => (field(TAG_LIST, list), *line),
             Step::Status { words } => (status_field(words), ""),
             Step::Message { room, .. } if *room != ANSWER_BYTES => continue,
@@ -118,7 +139,7 @@ mod tests {
 
     #[test]
     fn worked_session_is_four_lines() {
-        let case = cases().pop().unwrap();
+        let case = cases().into_iter().find(|case| case.name == "worked session").unwrap();
         let expected = "list OK\n\
             OK 0 0 00c0030702000000\n\
             N7 0 0 00c0050100000000\n\

@@ -1,6 +1,7 @@
 //! Message sequences as published boot code sends them: mailbox messages of 60 bytes, with zeros or
 //! stale bytes behind the structure.
 
+use crate::access::ENTRY_BYTES;
 use crate::harness::lists::{entry, list_of};
 use crate::harness::random::Random;
 use crate::manager::GEN_IGN_BOOTVECTOR;
@@ -19,12 +20,17 @@ pub type Sent = (u8, Vec<u8>);
 
 /// A list that lets these clients work: host 10 is the recovery master of the application cores.
 pub fn client_list() -> Vec<u8> {
-    list_of(&[
+    list_of(&client_entries())
+}
+
+/// The entries of that list.
+pub fn client_entries() -> [[u8; ENTRY_BYTES]; 4] {
+    [
         entry(1, [3, 5, 12, 4]),
         entry(2, [3, 6, 12, 4]),
         entry(32, [10, 12, 13, 4]),
         entry(33, [10, 13, 12, 0]),
-    ])
+    ]
 }
 
 /// Status words as such a system shows them: idle at first, then the core's wait-for-interrupt and

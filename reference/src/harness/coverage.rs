@@ -3,24 +3,51 @@
 use std::collections::BTreeSet;
 use std::fmt::Write;
 
-use crate::access::{ListFault, LIST_FAULTS};
+use crate::access::LIST_FAULTS;
+use crate::description::{BoardFault, BOARD_FAULTS};
+use crate::harness::board_situations::{self, Listed, Met, Offer};
+use crate::harness::clusters::Clusters;
 use crate::harness::goals::{goals, Subject, POSSIBLE, SUBJECTS};
-use crate::harness::situations::{Seen, Situations, Watch};
+use crate::harness::situations::{count_situations, situations, Seen, Watch};
+use crate::harness::tally::Tally;
 use crate::message::HEADER_BYTES;
 use crate::outcome::{Outcome, OUTCOMES};
 use crate::session::{call_of, write_line, Event, Session};
 
 /// How often each combination, situation, verdict and ending was reached, and with which
 /// processors.
-#[derive(Default)]
 pub struct Coverage {
     messages: [[[u64; 2]; OUTCOMES.len()]; SUBJECTS],
     /// the processor bytes that were looked up
     processors: BTreeSet<u8>,
-    situations: Situations,
+    situations: Tally,
+    /// what only boards that no description leaves can have
+    oddities: Tally,
+    refusals: Tally,
     lists: [u64; LIST_FAULTS.len() + 1],
+    listed: Tally,
+    boards: [u64; BOARD_FAULTS.len() + 1],
+    offers: Tally,
     pub bad_records: u64,
     pub cut_records: u64,
+}
+
+impl Default for Coverage {
+    fn default() -> Coverage {
+        Coverage {
+            messages: [[[0; 2]; OUTCOMES.len()]; SUBJECTS],
+            processors: BTreeSet::new(),
+            situations: situations(),
+            oddities: board_situations::oddities(),
+            refusals: board_situations::refusals(),
+            lists: [0; LIST_FAULTS.len() + 1],
+            listed: board_situations::lists(),
+            boards: [0; BOARD_FAULTS.len() + 1],
+            offers: board_situations::offers(),
+            bad_records: 0,
+            cut_records: 0,
+        }
+    }
 }
 
 impl Coverage {
@@ -34,12 +61,22 @@ impl Coverage {
         while let Ok(Some(event)) = session.next_event() {
             let _ = write_line(&mut lines, &event);
             match event {
-                Event::List(verdict) => self.count_list(verdict),
+                Event::List(verdict) => {
+                    let (board, list) = (&session.board, session.body());
+                    self.count_list(&Listed { board, list, verdict });
+                }
                 Event::Status => {}
                 Event::Message(report, _) => {
                     let call = call_of(session.body(), &session.status);
-                    let seen = watch.see((&session.access, &before), &call, report);
-                    self.count_message(call.message, report.outcome, seen.as_ref());
+                    let seen = watch.see(session.setup(), &before, &call, report);
+                    let met = Met { board: &session.board, call, outcome: report.outcome };
+                    self.count_message(&met, seen.as_ref());
+                }
+                Event::Board(verdict) => {
+                    self.count_board(session.body(), verdict);
+                    if verdict.is_ok() {
+                        watch = Watch::new(&Clusters::of(session.body()));
+                    }
                 }
                 Event::Bad => self.bad_records += 1,
                 Event::Cut => self.cut_records += 1,
@@ -50,18 +87,29 @@ impl Coverage {
     }
 
     /// Counts one message with its outcome and, if it had a whole order, what was seen of it.
-    pub fn count_message(&mut self, message: &[u8], outcome: Outcome, seen: Option<&Seen>) {
-        let (subject, asked) = Subject::of(message);
-        self.messages[subject.index()][outcome as usize][usize::from(asked)] += 1;
-        if outcome >= Outcome::N6 {
-            self.processors.insert(message[HEADER_BYTES]);
+    pub fn count_message(&mut self, met: &Met, seen: Option<&Seen>) {
+        let (subject, asked) = Subject::of(met.call.message);
+        self.messages[subject.index()][met.outcome as usize][usize::from(asked)] += 1;
+        if met.outcome >= Outcome::N6 {
+            self.processors.insert(met.call.message[HEADER_BYTES]);
         }
-        seen.into_iter().for_each(|seen| self.situations.count(seen));
+        board_situations::count_refusal(&mut self.refusals, met);
+        if let Some(seen) = seen {
+            count_situations(&mut self.situations, seen);
+            board_situations::count_oddity(&mut self.oddities, seen);
+        }
     }
 
     /// Counts one list with its verdict.
-    pub fn count_list(&mut self, verdict: Result<(), ListFault>) {
-        self.lists[verdict.map_or_else(|fault| fault as usize, |()| 0)] += 1;
+    pub fn count_list(&mut self, listed: &Listed) {
+        self.lists[listed.verdict.map_or_else(|fault| fault as usize, |()| 0)] += 1;
+        board_situations::count_list(&mut self.listed, listed);
+    }
+
+    /// Counts one description with its verdict.
+    pub fn count_board(&mut self, description: &[u8], verdict: Result<(), BoardFault>) {
+        self.boards[board_place(verdict)] += 1;
+        board_situations::count_offer(&mut self.offers, &Offer::new(description, verdict));
     }
 
     /// All messages counted.
@@ -69,14 +117,27 @@ impl Coverage {
         self.messages.iter().flatten().flatten().sum()
     }
 
-    /// All lists counted.
-    pub fn list_total(&self) -> u64 {
-        self.lists.iter().sum()
+    /// All lists and descriptions counted.
+    pub fn offer_total(&self) -> u64 {
+        self.lists.iter().chain(&self.boards).sum()
     }
 
-    /// What should have been reached and was not, or was reached and should not have been. R1 is
-    /// expected only of calls to the static library.
-    pub fn gaps(&self, with_r1: bool) -> Vec<String> {
+    /// What should have been reached and was not, or was reached and should not have been. R1 and
+    /// boards that no description leaves are expected only of calls to the static library.
+    pub fn gaps(&self, library: bool) -> Vec<String> {
+        let mut gaps = self.message_gaps(library);
+        gaps.extend(self.processor_gaps());
+        gaps.extend(self.verdict_gaps());
+        for tally in [&self.situations, &self.refusals, &self.listed, &self.offers] {
+            gaps.extend(tally.gaps());
+        }
+        if library {
+            gaps.extend(self.oddities.gaps());
+        }
+        gaps
+    }
+
+    fn message_gaps(&self, with_r1: bool) -> Vec<String> {
         let mut expected = [[[false; 2]; OUTCOMES.len()]; SUBJECTS];
         for goal in goals().iter().filter(|goal| with_r1 || goal.outcome != Outcome::R1) {
             expected[goal.subject.index()][goal.outcome as usize][usize::from(goal.asked)] = true;
@@ -92,9 +153,6 @@ impl Coverage {
                 }
             }
         }
-        gaps.extend(self.processor_gaps());
-        gaps.extend(self.situations.gaps());
-        gaps.extend(self.list_gaps());
         gaps
     }
 
@@ -110,15 +168,17 @@ impl Coverage {
         never.map(|byte| format!("processor {byte}: 0")).collect()
     }
 
-    fn list_gaps(&self) -> Vec<String> {
-        (0..self.lists.len())
-            .filter(|&number| self.lists[number] == 0)
-            .map(|number| format!("list {}: 0", verdict_name(number)))
-            .collect()
+    /// The verdicts of lists and of descriptions that were never reached.
+    fn verdict_gaps(&self) -> Vec<String> {
+        let lists = (0..self.lists.len()).filter(|&place| self.lists[place] == 0);
+        let boards = (0..self.boards.len()).filter(|&place| self.boards[place] == 0);
+        let lists = lists.map(|place| format!("list {}: 0", list_verdict(place)));
+        lists.chain(boards.map(|place| format!("board {}: 0", board_verdict(place)))).collect()
     }
 
-    /// A table by outcome: not asked / asked for each type, then the list verdicts and situations.
-    pub fn table(&self) -> String {
+    /// A table by outcome: not asked / asked for each type, then the verdicts and the situations
+    /// that are expected.
+    pub fn table(&self, library: bool) -> String {
         let mut text = format!("{:12}", "");
         for outcome in OUTCOMES {
             write!(text, "{:>12}", format!("{outcome:?}")).unwrap();
@@ -133,36 +193,70 @@ impl Coverage {
         }
         text.push_str("\nlists:");
         for (number, count) in self.lists.iter().enumerate() {
-            write!(text, " {} {count}", verdict_name(number)).unwrap();
+            write!(text, " {} {count}", list_verdict(number)).unwrap();
         }
-        text + &self.situations.table()
+        text.push_str("\nboards:");
+        for (place, count) in self.boards.iter().enumerate() {
+            write!(text, " {} {count}", board_verdict(place)).unwrap();
+        }
+        let tallies = [&self.situations, &self.refusals, &self.listed, &self.offers];
+        text.push_str(&tallies.map(Tally::table).concat());
+        if library {
+            text.push_str(&self.oddities.table());
+        }
+        text
     }
 }
 
-fn verdict_name(number: usize) -> String {
-    match number {
+fn list_verdict(place: usize) -> String {
+    match place {
         0 => "OK".to_string(),
-        _ => format!("A{number}"),
+        _ => format!("{:?}", LIST_FAULTS[place - 1]),
     }
+}
+
+fn board_verdict(place: usize) -> String {
+    match place {
+        0 => "OK".to_string(),
+        _ => format!("{:?}", BOARD_FAULTS[place - 1]),
+    }
+}
+
+/// The place of a description's verdict in tables: 0 for taken, then the faults in their order.
+fn board_place(verdict: Result<(), BoardFault>) -> usize {
+    let fault = BOARD_FAULTS.iter().position(|&fault| verdict == Err(fault));
+    fault.map_or(0, |place| place + 1)
 }
 
 #[cfg(test)]
 mod tests {
     use super::*;
+    use crate::access::ListFault;
     use crate::bench::cases;
+    use crate::board::Board;
     use crate::harness::cases::recording_of;
+    use crate::manager::Call;
+
+    fn met<'a>(board: &'a Board, message: &'a [u8], outcome: Outcome) -> Met<'a> {
+        Met { board, call: Call { channel: message[2], message, status: &[] }, outcome }
+    }
 
     #[test]
     fn gaps_name_the_missing_and_the_impossible() {
-        let mut coverage = Coverage::default();
+        let (mut coverage, board) = (Coverage::default(), Board::first());
         let all = coverage.gaps(true).len();
-        let situations = Situations::default().gaps().len();
-        assert_eq!(all, goals().len() + 256 + situations + 9);
-        coverage.count_message(&[0, 0xC0, 3, 0, 2, 0, 0, 0, 1], Outcome::OK, None);
-        coverage.count_message(&[0, 0xC0, 3, 0, 2, 0, 0, 0], Outcome::N4, None);
-        coverage.count_list(Err(ListFault::A8));
-        assert_eq!(coverage.gaps(true).len(), all - 4);
-        coverage.count_message(&[0, 0xC0, 3, 0, 0, 0, 0, 0, 1], Outcome::N9, None);
+        let tallies = [situations(), board_situations::refusals(), board_situations::lists()];
+        let boards = [board_situations::offers(), board_situations::oddities()];
+        let named: usize = tallies.iter().chain(&boards).map(|tally| tally.gaps().len()).sum();
+        assert_eq!(all, goals().len() + 256 + 9 + 8 + named);
+        let request = [0, 0xC0, 3, 0, 2, 0, 0, 0, 1];
+        coverage.count_message(&met(&board, &request, Outcome::OK), None);
+        coverage.count_message(&met(&board, &request[..8], Outcome::N4), None);
+        coverage.count_list(&Listed { board: &board, list: &[], verdict: Err(ListFault::A8) });
+        coverage.count_board(&[3], Err(BoardFault::A1));
+        assert_eq!(coverage.gaps(true).len(), all - 5);
+        let silent = [0, 0xC0, 3, 0, 0, 0, 0, 0, 1];
+        coverage.count_message(&met(&board, &silent, Outcome::N9), None);
         assert!(coverage.gaps(true).contains(&"Request N9 not asked: 1".to_string()));
     }
 

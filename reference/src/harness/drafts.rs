@@ -1,11 +1,12 @@
 //! Makes messages that steer toward a goal. Faults that are tested later than the goal are put in
 //! at random, so that the order of the tests is tried as well.
 
-use crate::access::{row_words, AccessMemory};
-use crate::board::{HOSTS, PROCESSORS};
+use crate::access::row_words;
+use crate::board::Board;
+use crate::harness::clusters::Clusters;
 use crate::harness::goals::{Goal, Subject};
 use crate::harness::random::Random;
-use crate::manager::{handle, Call};
+use crate::manager::{handle, Call, Setup};
 use crate::message::{Kind, ANSWER_BYTES, HEADER_BYTES, LONGEST_MESSAGE};
 use crate::outcome::Outcome;
 use crate::record::{Record, RecordMemory};
@@ -18,9 +19,11 @@ const TRIES: usize = 24;
 /// The state that a message will meet.
 #[derive(Clone, Copy)]
 pub struct Scene<'a> {
-    pub access: &'a AccessMemory,
+    pub setup: Setup<'a>,
     pub records: &'a RecordMemory,
     pub status: &'a [u32],
+    /// the processors that most messages are to name; none for any
+    pub focus: &'a [u8],
     /// the most status words that can be given
     pub most_words: usize,
 }
@@ -37,7 +40,7 @@ impl Draft {
     pub fn outcome(&self, scene: &Scene) -> Outcome {
         let status = self.status.as_deref().unwrap_or(scene.status);
         let call = Call { channel: self.channel, message: &self.message, status };
-        handle(scene.access, &mut scene.records.clone(), &call, &mut [0; ANSWER_BYTES]).outcome
+        handle(scene.setup, &mut scene.records.clone(), &call, &mut [0; ANSWER_BYTES]).outcome
     }
 
     /// Whether the goal is reached. R1 depends on the answer buffer, so any message will do.
@@ -48,7 +51,8 @@ impl Draft {
 
 /// A message that reaches the goal, as far as some tries find one.
 pub fn draft(random: &mut Random, scene: &Scene, goal: Goal) -> Draft {
-    let mut drafter = Drafter { random, scene: *scene, goal };
+    let (senders, processors) = (scene.setup.board.senders(), scene.setup.board.processors());
+    let mut drafter = Drafter { random, scene: *scene, goal, senders, processors };
     let mut draft = drafter.attempt();
     for _ in 1..TRIES {
         if draft.reaches(scene, goal) {
@@ -64,11 +68,29 @@ pub fn draft(random: &mut Random, scene: &Scene, goal: Goal) -> Draft {
     draft
 }
 
+/// Processors to follow for a while: some that belong together as far as a few tries find them, or
+/// none in particular.
+pub fn any_focus(random: &mut Random, board: &Board, clusters: &Clusters) -> Vec<u8> {
+    let processors = board.processors();
+    if processors.is_empty() || random.one_in(3) {
+        return Vec::new();
+    }
+    // An odd board may have processor 0, which is not to be missed.
+    if processors[0] == 0 && random.one_in(3) {
+        return vec![0];
+    }
+    let mut tries = (0..3).map(|_| clusters.around(board, random.pick(&processors)));
+    tries.find(|focus| focus.len() > 1).unwrap_or_default()
+}
+
 /// What goes into the making of one message.
 pub(super) struct Drafter<'a> {
     pub(super) random: &'a mut Random,
     pub(super) scene: Scene<'a>,
     goal: Goal,
+    /// the hosts and the processors of the board
+    senders: Vec<u16>,
+    processors: Vec<u8>,
 }
 
 impl Drafter<'_> {
@@ -78,12 +100,14 @@ impl Drafter<'_> {
     }
 
     fn attempt(&mut self) -> Draft {
-        let row = self.goal.row.unwrap_or_else(|| self.random.below(PROCESSORS.len()));
+        let processor = self.goal.processor.unwrap_or_else(|| self.any_processor());
+        // Of a processor that is not on the board any row will do.
+        let row = self.scene.setup.board.row_of(processor).unwrap_or(0);
         let (channel, host) = self.hosts(row);
         let mut message = self.header(host);
         let mut status = None;
         if let Subject::Type(kind) = self.goal.subject {
-            message.push(self.processor(row));
+            message.push(self.named(processor));
             status = self.add_fields(&mut message, kind, row);
             message.resize(kind.size(), 0);
         }
@@ -97,22 +121,55 @@ impl Drafter<'_> {
         if !self.faulty(Outcome::N2) {
             return (sender, sender);
         }
-        let other = self.random.pick_or(&[0, 7, 11, 14, 131], Random::u8);
-        let board = self.random.pick(&HOSTS) as u8;
+        let other = self.random.pick_or(&[0, 3, 7, 10, 12, 14, 131], Random::u8);
+        let board = self.any_sender();
         let pairs = [(other, other), (other, sender), (sender, other), (0, 0), (sender, board)];
         self.random.pick(&pairs)
     }
 
     /// A board host, often one with a part in this row.
     fn sender(&mut self, row: usize) -> u8 {
-        let any = self.random.pick(&HOSTS[1..]) as u8;
-        let controller = Record::load(self.scene.records, row).controller as u8;
-        let named = self.random.pick(row_words(self.scene.access, row)) as u8;
-        let wanted = self.random.pick(&[controller, controller, named, any]);
-        if HOSTS[1..].contains(&u16::from(wanted)) {
+        let any = self.any_sender();
+        let Setup { board, access } = self.scene.setup;
+        let controller = Record::load(board, self.scene.records, row).controller as u8;
+        let named = self.random.pick(row_words(access, row)) as u8;
+        let beside = self.controller_in_focus().unwrap_or(controller);
+        let wanted = self.random.pick(&[controller, controller, beside, named, any]);
+        if board.can_send(u16::from(wanted)) {
             wanted
         } else {
             any
+        }
+    }
+
+    /// The controller of some processor in focus.
+    fn controller_in_focus(&mut self) -> Option<u8> {
+        if self.scene.focus.is_empty() {
+            return None;
+        }
+        let board = self.scene.setup.board;
+        let row = board.row_of(self.random.pick(self.scene.focus))?;
+        Some(Record::load(board, self.scene.records, row).controller as u8)
+    }
+
+    /// A host that may send, or any number on a board without one.
+    pub(super) fn any_sender(&mut self) -> u8 {
+        match self.senders[..] {
+            [] => self.random.u8(),
+            _ => self.random.pick(&self.senders) as u8,
+        }
+    }
+
+    /// A processor of the board, mostly one of those in focus, or any number on a board without
+    /// one.
+    fn any_processor(&mut self) -> u8 {
+        let focus = self.scene.focus;
+        if self.processors.is_empty() {
+            self.random.u8()
+        } else if focus.is_empty() || self.random.one_in(5) {
+            self.random.pick(&self.processors)
+        } else {
+            self.random.pick(focus)
         }
     }
 
@@ -140,11 +197,12 @@ impl Drafter<'_> {
         }
     }
 
-    fn processor(&mut self, row: usize) -> u8 {
+    /// The processor to name: the one that is meant, or one that the board often lacks.
+    fn named(&mut self, processor: u8) -> u8 {
         if self.faulty(Outcome::N6) {
-            self.random.pick_or(&[0, 3, 31, 34, 129, 255], Random::u8)
+            self.random.pick_or(&[0, 1, 2, 3, 31, 32, 33, 34, 129, 255], Random::u8)
         } else {
-            PROCESSORS[row].number
+            processor
         }
     }
 
@@ -185,11 +243,12 @@ mod tests {
     #[test]
     fn drafts_reach_each_goal_that_the_state_allows() {
         let mut random = Random::new(6, 0);
-        let mut access = [0; ACCESS_WORDS];
-        accept_list(&mut access, &good_list(&mut random)).unwrap();
+        let (board, mut access) = (Board::first(), [0; ACCESS_WORDS]);
+        accept_list(&board, &mut access, &good_list(&mut random, &board)).unwrap();
         let mut records = [0; RECORD_WORDS];
         records[0] = 3;
-        let scene = Scene { access: &access, records: &records, status: &[], most_words: 255 };
+        let setup = Setup { board: &board, access: &access };
+        let scene = Scene { setup, records: &records, status: &[], focus: &[], most_words: 255 };
         let reachable = |goal: &Goal| !matches!(goal.outcome, Outcome::R1 | Outcome::N1);
         for goal in goals().into_iter().filter(reachable) {
             let reached =

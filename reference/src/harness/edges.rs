@@ -1,10 +1,12 @@
 //! Recordings with a bad tag, a bad length or a cut at every position, with the longest and shortest
 //! good fields, and with every processor byte in messages of every type.
 
+use crate::harness::board_edges::board_recordings;
 use crate::harness::clients::client_list;
+use crate::harness::descriptions::{host_field, processor_field};
 use crate::harness::recordings::{field, header_of, message_field, status_field};
 use crate::message::{KINDS, LONGEST_MESSAGE};
-use crate::session::{TAG_LIST, TAG_MESSAGE, TAG_STATUS};
+use crate::session::{TAGS, TAG_BOARD, TAG_LIST};
 
 /// Lengths on both sides of each limit.
 const LENGTHS: [usize; 19] =
@@ -18,6 +20,7 @@ pub fn edge_recordings() -> Vec<Vec<u8>> {
         recordings.extend(spoiled(&whole, start));
     }
     recordings.push(processor_recording());
+    recordings.extend(board_recordings());
     recordings
 }
 
@@ -42,12 +45,14 @@ fn small_recording() -> Vec<u8> {
     small_fields().concat()
 }
 
-fn small_fields() -> [Vec<u8>; 4] {
+fn small_fields() -> [Vec<u8>; 6] {
     [
+        field(TAG_BOARD, &[host_field(3, 1), processor_field(1, 0, 0)].concat()),
         field(TAG_LIST, &[0xEA, 0xF1, 0x24]),
         status_field(&[1, 2]),
         message_field(3, &[0, 0xC0, 3, 7, 2, 0, 0, 0, 1]),
         field(TAG_LIST, &[]),
+        field(TAG_BOARD, &[]),
     ]
 }
 
@@ -60,10 +65,10 @@ fn field_starts() -> Vec<usize> {
 /// The recording with something else put in at `start`: bad tags, alone and with a length, and each
 /// good tag with each length, with half and all of its body.
 fn spoiled(whole: &[u8], start: usize) -> Vec<Vec<u8>> {
-    let bad_tags = [0, 4, 5, 128, 129, 130, 131, 255];
+    let bad_tags = [0, 4, 5, 7, 128, 129, 130, 131, 134, 255];
     let mut pieces: Vec<_> = bad_tags.map(|tag| vec![tag]).to_vec();
     pieces.extend(bad_tags.map(|tag| header_of(tag, 0).to_vec()));
-    for tag in [TAG_LIST, TAG_STATUS, TAG_MESSAGE] {
+    for tag in TAGS {
         for length in LENGTHS {
             let bare = header_of(tag, length).to_vec();
             let mut full = bare.clone();
@@ -92,7 +97,7 @@ mod tests {
 
     #[test]
     fn edges_have_all_endings() {
-        let endings = ["bad record\n", "cut record\n", "list A2\n"];
+        let endings = ["bad record\n", "cut record\n", "list A2\nboard OK\n"];
         let mut counts = [0; 3];
         for recording in edge_recordings() {
             let mut lines = Vec::new();

@@ -1,7 +1,8 @@
 //! What a message can come to: the combinations of type, outcome and answer asked or not, worked
 //! out from the order of the tests.
 
-use crate::board::{row_of, sharers};
+use crate::board::Board;
+use crate::harness::clusters::Clusters;
 use crate::harness::random::Random;
 use crate::message::{read_order, Header, Kind, Order, KINDS};
 use crate::outcome::Outcome;
@@ -70,29 +71,43 @@ pub struct Goal {
     pub subject: Subject,
     pub outcome: Outcome,
     pub asked: bool,
-    /// the row of the processor to name; none for any
-    pub row: Option<usize>,
+    /// the processor to name; none for any
+    pub processor: Option<u8>,
 }
 
 impl Goal {
     /// A request that is carried out.
     pub const REQUEST: Goal =
-        Goal { subject: Subject::Type(Kind::Request), outcome: OK, asked: true, row: None };
+        Goal { subject: Subject::Type(Kind::Request), outcome: OK, asked: true, processor: None };
 
     /// A status answer, which shows what a record holds.
     pub const STATUS: Goal =
-        Goal { subject: Subject::Type(Kind::GetStatus), outcome: OK, asked: true, row: None };
+        Goal { subject: Subject::Type(Kind::GetStatus), outcome: OK, asked: true, processor: None };
 
-    /// The status answer of another core, if the message has set the control word that they share.
-    pub fn shared_look(message: &[u8], outcome: Outcome) -> Option<Goal> {
+    /// A set control through this processor.
+    pub fn set_control(processor: u8, outcome: Outcome) -> Goal {
+        let subject = Subject::Type(Kind::SetControl);
+        Goal { subject, outcome, asked: true, processor: Some(processor) }
+    }
+
+    /// The status answer of another core of the cluster, any of them, if the message has set a
+    /// control word: it shows whether they share it.
+    pub fn look_beside(
+        random: &mut Random,
+        (board, clusters): (&Board, &Clusters),
+        message: &[u8],
+        outcome: Outcome,
+    ) -> Option<Goal> {
         if outcome != OK {
             return None;
         }
         let Ok((processor, Order::SetControl(_))) = read_order(message) else {
             return None;
         };
-        let row = sharers(row_of(processor)?).next();
-        row.map(|_| Goal { row, ..Goal::STATUS })
+        let mut others = clusters.around(board, processor);
+        others.retain(|&other| other != processor);
+        let shown = (!others.is_empty()).then(|| random.pick(&others));
+        shown.map(|_| Goal { processor: shown, ..Goal::STATUS })
     }
 
     /// Whether some host has to control a processor for the goal to be reached.
@@ -111,9 +126,9 @@ pub fn goals() -> Vec<Goal> {
     let mut goals = Vec::new();
     for (subject, outcomes) in POSSIBLE {
         for &outcome in outcomes {
-            goals.push(Goal { subject, outcome, asked: false, row: None });
+            goals.push(Goal { subject, outcome, asked: false, processor: None });
             if subject != Subject::Short {
-                goals.push(Goal { subject, outcome, asked: true, row: None });
+                goals.push(Goal { subject, outcome, asked: true, processor: None });
             }
         }
     }
@@ -132,7 +147,10 @@ pub fn pick_goal(random: &mut Random, goals: &[Goal], test: impl Fn(Outcome) -> 
 
 #[cfg(test)]
 mod tests {
+    use std::collections::BTreeSet;
+
     use super::*;
+    use crate::board::{Class, Processor};
 
     #[test]
     fn short_messages_have_their_own_row() {
@@ -142,12 +160,28 @@ mod tests {
 
     #[test]
     fn a_shared_word_is_looked_at_through_the_other_core() {
-        let row = |number: u8, processor: u8, outcome| {
+        let mut random = Random::new(9, 0);
+        let mut shown = |number: u8, processor: u8, outcome| {
             let mut message = vec![number, 0xC1, 3, 0, 2, 0, 0, 0, processor];
             message.resize(25, 0);
-            Goal::shared_look(&message, outcome).and_then(|goal| goal.row)
+            let place = (&Board::first(), &Clusters::default());
+            let look = Goal::look_beside(&mut random, place, &message, outcome);
+            look.and_then(|goal| goal.processor)
         };
-        assert_eq!([1, 2, 32, 33].map(|p| row(1, p, OK)), [None, None, Some(3), Some(2)]);
-        assert_eq!([row(1, 32, N8), row(0, 32, OK)], [None, None]);
+        assert_eq!([1, 2, 32, 33].map(|p| shown(1, p, OK)), [None, None, Some(33), Some(32)]);
+        assert_eq!([shown(1, 32, N8), shown(0, 32, OK)], [None, None]);
+    }
+
+    #[test]
+    fn every_sharer_is_looked_through() {
+        let cluster = [7, 8, 9].map(|number| Processor { number, class: Class::Armv8, cluster: 4 });
+        let board = Board::new(&[], &cluster);
+        let mut random = Random::new(10, 0);
+        let mut message = vec![1, 0xC1, 3, 0, 2, 0, 0, 0, 8];
+        message.resize(17, 0);
+        let place = (&board, &Clusters::default());
+        let looks = (0..100).map(|_| Goal::look_beside(&mut random, place, &message, OK));
+        let shown: BTreeSet<_> = looks.map(|goal| goal.and_then(|goal| goal.processor)).collect();
+        assert_eq!(shown, BTreeSet::from([Some(7), Some(9)]));
     }
 }

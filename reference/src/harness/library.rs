@@ -4,43 +4,65 @@
 use std::fmt::Debug;
 
 use crate::access::{accept_list, has_list, AccessMemory, ListFault, LIST_FAULTS};
+use crate::board::{Board, BOARD_BYTES};
+use crate::description::{take_board, BoardFault, BOARD_FAULTS};
+use crate::harness::board_edges::edge_descriptions;
+use crate::harness::board_situations::{Listed, Met};
 use crate::harness::cases::{Calls, Memory};
 use crate::harness::coverage::Coverage;
-use crate::harness::drafts::{draft, Scene, LONGEST_RECORDED};
+use crate::harness::descriptions::{faulty_description, good_fields};
+use crate::harness::drafts::{any_focus, draft, Scene, LONGEST_RECORDED};
 use crate::harness::goals::{goals, pick_goal, Goal};
 use crate::harness::lists::{faulty_list, good_list};
 use crate::harness::memories::{
-    any_access, any_access_before, any_records, between_guards, guarded, lent_part, GUARD,
+    any_access, any_access_before, any_board, any_records, between_guards, guarded, lent_part,
+    LentBoard, GUARD,
 };
 use crate::harness::random::Random;
 use crate::harness::situations::Watch;
-use crate::manager::{handle, Call};
+use crate::manager::{handle, Call, Setup};
 use crate::message::ANSWER_BYTES;
 use crate::outcome::{Outcome, Report};
 use crate::record::RecordMemory;
 use crate::static_library::{self, RawReport};
 
 const LONGEST_LIST: usize = 600;
+const LONGEST_BOARD: usize = 700;
 const MOST_WORDS: usize = 300;
 const MOST_ROOM: usize = 64;
 
-/// Calls made on one pair of memories before new ones are drawn.
+/// Calls made on the same memories before new ones are drawn.
 const CALLS_PER_START: u64 = 10;
 
 /// The calls of the static library, with its numbers turned into lines.
 pub struct StaticLibrary;
 
 impl Calls for StaticLibrary {
+    fn start(&self) -> Board {
+        let mut board = Board([0xA5; BOARD_BYTES]);
+        static_library::start(&mut board.0);
+        board
+    }
+
+    fn board(&self, memory: &mut Memory, description: &[u8]) -> String {
+        match static_library::board(&mut memory.board.0, &memory.access, description) {
+            0 => "board OK".to_string(),
+            number @ ..200 => format!("board A{number}"),
+            number => format!("board D{}", number - 200),
+        }
+    }
+
     fn list(&self, memory: &mut Memory, list: &[u8]) -> String {
-        match static_library::list(&mut memory.access, list) {
+        match static_library::list(&memory.board.0, &mut memory.access, list) {
             0 => "list OK".to_string(),
             number => format!("list A{number}"),
         }
     }
 
     fn message(&self, memory: &mut Memory, call: &Call, answer: &mut [u8]) -> String {
+        let Memory { board, access, records } = memory;
         let RawReport { outcome, checks, microseconds, written } =
-            static_library::message(&memory.access, &mut memory.records, call, answer);
+            static_library::message(&board.0, access, records, call, answer);
         let name = match outcome {
             0 => "OK".to_string(),
             1..=9 => format!("N{outcome}"),
@@ -54,43 +76,126 @@ impl Calls for StaticLibrary {
     }
 }
 
-/// Compares this many list calls.
-pub fn compare_lists(seed: u64, calls: u64, coverage: &mut Coverage) -> Result<(), String> {
+/// Compares this many start calls, over memory of any content.
+pub fn compare_starts(seed: u64, calls: u64) -> Result<(), String> {
     for number in 0..calls {
-        let mut random = Random::new(seed ^ 0x4C69_7374, number);
-        let list = any_list(&mut random);
-        let access = any_access_before(&mut random);
-        let verdict = compare_list(&access, &list).map_err(|text| {
-            format!("list call {number}: {text}\n access {access:?}\n list {}", hex(&list))
-        })?;
-        coverage.count_list(verdict);
+        let mut random = Random::new(seed ^ 0x5374_6172, number);
+        let mut lent = guarded(&any_board(&mut random).board.0, 0x5A);
+        static_library::start(lent_part(&mut lent));
+        same("board memory", &guarded(&Board::first().0, 0x5A), &lent)
+            .map_err(|text| format!("start call {number}: {text}"))?;
     }
     Ok(())
 }
 
-fn any_list(random: &mut Random) -> Vec<u8> {
+/// Compares the board calls that are always the same, before a list, and then this many others.
+pub fn compare_boards(seed: u64, calls: u64, coverage: &mut Coverage) -> Result<(), String> {
+    let edges = edge_descriptions();
+    let edge_count = edges.len();
+    let random = (0..calls).map(|number| {
+        let mut random = Random::new(seed ^ 0x426F_6172, number);
+        any_description(&mut random)
+    });
+    for (number, description) in edges.into_iter().chain(random).enumerate() {
+        let mut random = Random::new(seed ^ 0x4472_6177, number as u64);
+        let board = any_board(&mut random).board;
+        let mut access = any_access_before(&mut random);
+        if number < edge_count {
+            access[0] = 0;
+        }
+        let verdict = compare_board(&board, &access, &description).map_err(|text| {
+            let (board, description) = (hex(&board.0), hex(&description));
+            let told = format!(" board {board}\n access {access:?}\n description {description}");
+            format!("board call {number}: {text}\n{told}")
+        })?;
+        coverage.count_board(&description, verdict);
+    }
+    Ok(())
+}
+
+fn any_description(random: &mut Random) -> Vec<u8> {
+    match random.below(8) {
+        0 => {
+            let length = random.between(0, LONGEST_BOARD);
+            random.bytes(length)
+        }
+        1 | 2 => good_fields(random).concat(),
+        _ => {
+            let fault = random.pick(&BOARD_FAULTS);
+            faulty_description(random, fault, LONGEST_BOARD)
+        }
+    }
+}
+
+fn compare_board(
+    board: &Board,
+    access: &AccessMemory,
+    description: &[u8],
+) -> Result<Result<(), BoardFault>, String> {
+    let mut expected = *board;
+    let verdict = take_board(&mut expected, access, description);
+    let number = verdict.map_or_else(|fault| fault as u32, |()| 0);
+    let mut lent = guarded(&board.0, 0x5A);
+    let mut lent_access = guarded(access, 0x5AA5);
+    let description = guarded(description, 0xC3);
+    let given = static_library::board(
+        lent_part(&mut lent),
+        lent_part(&mut lent_access),
+        between_guards(&description),
+    );
+    same("verdict", &number, &given)?;
+    same("board memory", &guarded(&expected.0, 0x5A), &lent)?;
+    same("access memory", &guarded(access, 0x5AA5), &lent_access)?;
+    Ok(verdict)
+}
+
+/// Compares this many list calls.
+pub fn compare_lists(seed: u64, calls: u64, coverage: &mut Coverage) -> Result<(), String> {
+    for number in 0..calls {
+        let mut random = Random::new(seed ^ 0x4C69_7374, number);
+        let board = any_board(&mut random).board;
+        let list = any_list(&mut random, &board);
+        let access = any_access_before(&mut random);
+        let verdict = compare_list(&board, &access, &list).map_err(|text| {
+            let (board, list) = (hex(&board.0), hex(&list));
+            let told = format!(" board {board}\n access {access:?}\n list {list}");
+            format!("list call {number}: {text}\n{told}")
+        })?;
+        coverage.count_list(&Listed { board: &board, list: &list, verdict });
+    }
+    Ok(())
+}
+
+fn any_list(random: &mut Random, board: &Board) -> Vec<u8> {
     match random.below(8) {
         0 => {
             let length = random.between(0, LONGEST_LIST);
             random.bytes(length)
         }
-        1 => good_list(random),
+        1 => good_list(random, board),
         _ => {
             let fault = random.pick(&LIST_FAULTS);
-            faulty_list(random, fault, LONGEST_LIST)
+            faulty_list(random, board, fault, LONGEST_LIST)
         }
     }
 }
 
-fn compare_list(access: &AccessMemory, list: &[u8]) -> Result<Result<(), ListFault>, String> {
+fn compare_list(
+    board: &Board,
+    access: &AccessMemory,
+    list: &[u8],
+) -> Result<Result<(), ListFault>, String> {
     let mut expected = *access;
-    let verdict = accept_list(&mut expected, list);
+    let verdict = accept_list(board, &mut expected, list);
     let number = verdict.map_or_else(|fault| fault as u32, |()| 0);
+    let mut lent_board = guarded(&board.0, 0x5A);
     let mut lent = guarded(access, 0x5AA5);
     // The guards put the list at an odd address.
     let list = guarded(list, 0xC3);
-    let given = static_library::list(lent_part(&mut lent), between_guards(&list));
+    let lent_memory = lent_part(&mut lent_board);
+    let given = static_library::list(lent_memory, lent_part(&mut lent), between_guards(&list));
     same("verdict", &number, &given)?;
+    same("board memory", &guarded(&board.0, 0x5A), &lent_board)?;
     same("access memory", &guarded(&expected, 0x5AA5), &lent)?;
     Ok(verdict)
 }
@@ -100,22 +205,27 @@ pub fn compare_messages(seed: u64, calls: u64, coverage: &mut Coverage) -> Resul
     let goals = goals();
     for start in 0..calls.div_ceil(CALLS_PER_START) {
         let mut random = Random::new(seed ^ 0x4D65_7373, start);
-        let access = any_access(&mut random);
-        let mut records = any_records(&mut random);
-        let mut watch = Watch::default();
+        let LentBoard { board, clusters } = any_board(&mut random);
+        let access = any_access(&mut random, &board);
+        let mut records = any_records(&mut random, &board);
+        let setup = Setup { board: &board, access: &access };
+        let focus = any_focus(&mut random, &board, &clusters);
+        let mut watch = Watch::new(&clusters);
         let mut look = None;
         for number in 0..CALLS_PER_START {
             let goal = look.unwrap_or_else(|| possible_goal(&mut random, &goals, &access));
-            let trial = Trial::new(&mut random, goal, (&access, &records));
+            let trial = Trial::new(&mut random, goal, (setup, &focus), &records);
             let before = records;
-            let report = trial.compare(&access, &mut records).map_err(|text| {
+            let report = trial.compare(setup, &mut records).map_err(|text| {
                 let place = start * CALLS_PER_START + number;
-                let told = trial.describe(&access, &before);
+                let told = trial.describe(setup, &before);
                 format!("message call {place}: {text}\n{told}")
             })?;
-            let seen = watch.see((&access, &before), &trial.call(), report);
-            coverage.count_message(&trial.message, report.outcome, seen.as_ref());
-            look = Goal::shared_look(&trial.message, report.outcome);
+            let seen = watch.see(setup, &before, &trial.call(), report);
+            let met = Met { board: &board, call: trial.call(), outcome: report.outcome };
+            coverage.count_message(&met, seen.as_ref());
+            let place = (&board, &clusters);
+            look = Goal::look_beside(&mut random, place, &trial.message, report.outcome);
         }
     }
     Ok(())
@@ -140,11 +250,15 @@ struct Trial {
 
 impl Trial {
     /// Draws a message toward the goal.
-    fn new(random: &mut Random, goal: Goal, lent: (&AccessMemory, &RecordMemory)) -> Trial {
-        let (access, records) = lent;
+    fn new(
+        random: &mut Random,
+        goal: Goal,
+        (setup, focus): (Setup, &[u8]),
+        records: &RecordMemory,
+    ) -> Trial {
         let count = random.pick_or(&[0], |random| random.between(0, MOST_WORDS));
         let standing = random.words(count);
-        let scene = Scene { access, records, status: &standing, most_words: MOST_WORDS };
+        let scene = Scene { setup, records, status: &standing, focus, most_words: MOST_WORDS };
         let mut draft = draft(random, &scene, goal);
         if random.one_in(20) {
             let length = random.between(0, LONGEST_RECORDED);
@@ -165,33 +279,38 @@ impl Trial {
 
     /// Makes the call both ways and compares all that can be seen afterwards. The records are then
     /// what both left.
-    fn compare(&self, access: &AccessMemory, records: &mut RecordMemory) -> Result<Report, String> {
+    fn compare(&self, setup: Setup, records: &mut RecordMemory) -> Result<Report, String> {
         let message = guarded(&self.message, 0xC3);
         let call = Call { message: between_guards(&message), ..self.call() };
+        let Setup { board, access } = setup;
+        let mut lent_board = guarded(&board.0, 0x5A);
         let mut lent_access = guarded(access, 0x5AA5);
         let mut lent_records = guarded(records, 0x5AA5_5AA5);
         let mut lent_answer = guarded(&self.buffer, 0x5A);
         let given = static_library::message(
+            lent_part(&mut lent_board),
             lent_part(&mut lent_access),
             lent_part(&mut lent_records),
             &call,
             &mut lent_answer[GUARD..GUARD + self.buffer.len()],
         );
         let mut answer = self.buffer.clone();
-        let report = handle(access, records, &call, &mut answer);
+        let report = handle(setup, records, &call, &mut answer);
         same("report", &raw(&report), &given)?;
+        same("board memory", &guarded(&board.0, 0x5A), &lent_board)?;
         same("access memory", &guarded(access, 0x5AA5), &lent_access)?;
         same("record memory", &guarded(records, 0x5AA5_5AA5), &lent_records)?;
         same("answer buffer", &guarded(&answer, 0x5A), &lent_answer)?;
         Ok(report)
     }
 
-    fn describe(&self, access: &AccessMemory, records: &RecordMemory) -> String {
+    fn describe(&self, setup: Setup, records: &RecordMemory) -> String {
         let Trial { channel, message, status, buffer } = self;
         let (message, room) = (hex(message), buffer.len());
+        let (board, access) = (hex(&setup.board.0), setup.access);
         format!(
-            " access {access:?}\n records {records:x?}\n channel {channel}\n message {message}\n \
-             status {status:x?}\n answer room {room}"
+            " board {board}\n access {access:?}\n records {records:x?}\n channel {channel}\n \
+             message {message}\n status {status:x?}\n answer room {room}"
         )
     }
 }

@@ -1,13 +1,49 @@
 //! Lent memories of any content, with guards around them.
 
 use crate::access::{accept_list, AccessMemory, ACCESS_WORDS};
-use crate::board::{flag_mask, Word, HOSTS, PROCESSORS};
+use crate::board::{flag_mask, Board, Word, BOARD_BYTES, ROWS};
+use crate::description::take_board;
+use crate::harness::clusters::Clusters;
+use crate::harness::descriptions::{first_fields, good_fields};
 use crate::harness::lists::good_list;
 use crate::harness::random::Random;
 use crate::record::{Record, RecordMemory, RECORD_WORDS};
 
 /// Words or bytes on each side of what is lent, which must keep their values.
 pub const GUARD: usize = 5;
+
+/// Where board memory has hosts, places, classes and homes, and where it ends.
+const BOARD_PARTS: [usize; 5] = [0, 256, 512, 544, BOARD_BYTES];
+
+/// Where board memory has the place of processor 0, which no description lists.
+const PLACE_OF_0: usize = BOARD_PARTS[1];
+
+/// A lent board, and the clusters that its description named.
+pub struct LentBoard {
+    pub board: Board,
+    pub clusters: Clusters,
+}
+
+/// Board memory of any content: mere noise, or what a description leaves, often with some bytes
+/// changed.
+pub fn any_board(random: &mut Random) -> LentBoard {
+    if random.one_in(6) {
+        let mut board = Board(std::array::from_fn(|_| random.u8()));
+        if random.one_in(3) {
+            board.0[PLACE_OF_0] = random.below(ROWS) as u8;
+        }
+        return LentBoard { board, clusters: Clusters::default() };
+    }
+    let fields = if random.one_in(3) { first_fields() } else { good_fields(random) };
+    let (mut board, description) = (Board::first(), fields.concat());
+    take_board(&mut board, &[0; ACCESS_WORDS], &description).expect("a good board is taken");
+    for _ in 0..random.pick(&[0, 0, 0, 1, 3, 9]) {
+        let part = random.below(BOARD_PARTS.len() - 1);
+        let place = random.between(BOARD_PARTS[part], BOARD_PARTS[part + 1] - 1);
+        board.0[place] = random.pick_or(&[0, 1, 2, 31, 32, 255], Random::u8);
+    }
+    LentBoard { board, clusters: Clusters::of(&description) }
+}
 
 /// Memory of any content, mostly with the word that says that no list was accepted.
 pub fn any_access_before(random: &mut Random) -> AccessMemory {
@@ -17,16 +53,17 @@ pub fn any_access_before(random: &mut Random) -> AccessMemory {
 }
 
 /// Access memory of any content: mere noise, or what a list leaves with some words changed.
-pub fn any_access(random: &mut Random) -> AccessMemory {
+pub fn any_access(random: &mut Random, board: &Board) -> AccessMemory {
     if random.one_in(6) {
         return std::array::from_fn(|_| random.u16());
     }
     let mut access = [0; ACCESS_WORDS];
-    accept_list(&mut access, &good_list(random)).expect("a good list is accepted");
+    accept_list(board, &mut access, &good_list(random, board)).expect("a good list is accepted");
+    let hosts = hosts_and_none(board);
     for _ in 0..random.pick(&[0, 0, 1, 3, 6]) {
         let word = random.below(ACCESS_WORDS);
         let near = access[word] ^ 0x100;
-        let host = random.pick(&HOSTS);
+        let host = random.pick(&hosts);
         access[word] = random.pick_or(&[0, 7, near, host], Random::u16);
     }
     if random.one_in(8) {
@@ -36,7 +73,7 @@ pub fn any_access(random: &mut Random) -> AccessMemory {
 }
 
 /// Record memory of any content: mere noise, or plausible records with some words changed.
-pub fn any_records(random: &mut Random) -> RecordMemory {
+pub fn any_records(random: &mut Random, board: &Board) -> RecordMemory {
     if random.one_in(6) {
         return std::array::from_fn(|_| random.u32());
     }
@@ -45,15 +82,17 @@ pub fn any_records(random: &mut Random) -> RecordMemory {
     if random.one_in(2) {
         records.fill_with(|| random.u32());
     }
-    for (row, processor) in PROCESSORS.iter().enumerate() {
+    let hosts = hosts_and_none(board);
+    for row in 0..ROWS {
+        let class = board.class_at(row);
         let record = Record {
-            controller: u32::from(random.pick(&HOSTS)),
+            controller: u32::from(random.pick(&hosts)),
             vector_low: random.u32(),
             vector_high: random.u32(),
-            config: random.u32() & flag_mask(processor.class, Word::Config),
-            control: random.u32() & flag_mask(processor.class, Word::Control),
+            config: random.u32() & flag_mask(class, Word::Config),
+            control: random.u32() & flag_mask(class, Word::Control),
         };
-        record.store(&mut records, row);
+        record.store(board, &mut records, row);
     }
     for _ in 0..random.pick(&[0, 0, 1, 3]) {
         let word = random.below(RECORD_WORDS);
@@ -61,6 +100,13 @@ pub fn any_records(random: &mut Random) -> RecordMemory {
         records[word] = random.pick_or(&[0, near, near], Random::u32);
     }
     records
+}
+
+/// The hosts of the board, with one place in eight for no host.
+fn hosts_and_none(board: &Board) -> Vec<u16> {
+    let mut hosts = board.senders();
+    hosts.resize(hosts.len() + hosts.len() / 7 + 1, 0);
+    hosts
 }
 
 /// The content with guards before and behind it.

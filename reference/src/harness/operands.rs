@@ -1,7 +1,7 @@
 //! The fields behind the processor of a drafted message, right or wrong as its goal needs.
 
 use crate::access::row_words;
-use crate::board::{flag_mask, Class, Word, HOSTS, PROCESSORS};
+use crate::board::{flag_mask, Class, Word};
 use crate::harness::drafts::Drafter;
 use crate::harness::random::Random;
 use crate::harness::waits::{faulty_wait, good_wait, words_for};
@@ -17,14 +17,15 @@ impl Drafter<'_> {
         kind: Kind,
         row: usize,
     ) -> Option<Vec<u32>> {
+        let class = self.scene.setup.board.class_at(row);
         match kind {
             Kind::Handover => {
                 let host = self.new_host(row);
                 message.push(host);
             }
-            Kind::SetConfig => self.add_config(message, PROCESSORS[row].class),
+            Kind::SetConfig => self.add_config(message, class),
             Kind::SetControl => {
-                let mask = flag_mask(PROCESSORS[row].class, Word::Control);
+                let mask = flag_mask(class, Word::Control);
                 let faulty = self.faulty(Outcome::N8);
                 self.add_flags(message, mask, faulty, 0);
             }
@@ -41,8 +42,8 @@ impl Drafter<'_> {
 
     /// Any of the hosts that a handover may or may not name.
     fn new_host(&mut self, row: usize) -> u8 {
-        let board = self.random.pick(&HOSTS) as u8;
-        let named = self.random.pick(row_words(self.scene.access, row)) as u8;
+        let board = self.any_sender();
+        let named = self.random.pick(row_words(self.scene.setup.access, row)) as u8;
         self.random.pick_or(&[0, board, named, named], Random::u8)
     }
 

@@ -1,18 +1,21 @@
-//! Makes session recordings: the list, status words and messages of a session, sometimes with a
-//! bad or cut field at the end.
+//! Makes session recordings: the boards, the list, status words and messages of a session,
+//! sometimes with a bad or cut field at the end.
 
-use crate::access::{accept_list, has_list, AccessMemory, ACCESS_WORDS, LIST_FAULTS};
-use crate::board::PROCESSORS;
+use crate::access::{accept_list, has_list, AccessMemory, ListFault, ACCESS_WORDS, LIST_FAULTS};
+use crate::board::Board;
+use crate::description::{take_board, BOARD_FAULTS};
 use crate::harness::clients::{client_list, client_status, mixed_clients};
-use crate::harness::drafts::{draft, Scene, LONGEST_RECORDED};
+use crate::harness::clusters::Clusters;
+use crate::harness::descriptions::{faulty_description, first_fields, good_fields};
+use crate::harness::drafts::{any_focus, draft, Scene, LONGEST_RECORDED};
 use crate::harness::goals::{goals, pick_goal, Goal};
 use crate::harness::lists::{faulty_list, good_list};
 use crate::harness::random::Random;
-use crate::manager::{handle, Call};
+use crate::manager::{handle, Call, Setup};
 use crate::message::ANSWER_BYTES;
 use crate::outcome::Outcome;
 use crate::record::{Record, RecordMemory, RECORD_WORDS};
-use crate::session::{TAG_LIST, TAG_MESSAGE, TAG_STATUS};
+use crate::session::{LONGEST_BOARD, TAG_BOARD, TAG_LIST, TAG_MESSAGE, TAG_STATUS};
 
 /// The most status words and the longest list that a recording can hold.
 const MOST_WORDS: usize = 255;
@@ -20,6 +23,9 @@ const LONGEST_LIST: usize = 512;
 
 /// Status answers at the end of a steered recording, which show what the records hold.
 const LAST_LOOKS: usize = 6;
+
+/// Messages that follow the same processors.
+const FOCUS_MESSAGES: usize = 40;
 
 /// One recording in this many is a long one.
 const LONG_EVERY: u64 = 400;
@@ -67,6 +73,9 @@ pub fn recording(seed: u64, number: u64) -> Vec<u8> {
 struct Recorder {
     random: Random,
     bytes: Vec<u8>,
+    board: Board,
+    clusters: Clusters,
+    focus: Vec<u8>,
     access: AccessMemory,
     records: RecordMemory,
     status: Vec<u32>,
@@ -77,16 +86,26 @@ impl Recorder {
         Recorder {
             random,
             bytes: Vec::new(),
+            board: Board::first(),
+            clusters: Clusters::default(),
+            focus: Vec::new(),
             access: [0; ACCESS_WORDS],
             records: [0; RECORD_WORDS],
             status: Vec::new(),
         }
     }
 
+    fn board(&mut self, description: &[u8]) {
+        self.bytes.extend(field(TAG_BOARD, description));
+        if take_board(&mut self.board, &self.access, description).is_ok() {
+            self.clusters = Clusters::of(description);
+        }
+    }
+
     fn list(&mut self, list: &[u8]) {
         self.bytes.extend(field(TAG_LIST, list));
         // The verdict does not matter here: the state is right either way.
-        let _ = accept_list(&mut self.access, list);
+        let _ = accept_list(&self.board, &mut self.access, list);
     }
 
     fn status(&mut self, words: Vec<u32>) {
@@ -97,25 +116,36 @@ impl Recorder {
     fn message(&mut self, channel: u8, message: &[u8]) -> Outcome {
         self.bytes.extend(message_field(channel, message));
         let call = Call { channel, message, status: &self.status };
-        handle(&self.access, &mut self.records, &call, &mut [0; ANSWER_BYTES]).outcome
+        let setup = Setup { board: &self.board, access: &self.access };
+        handle(setup, &mut self.records, &call, &mut [0; ANSWER_BYTES]).outcome
     }
 
-    /// Messages and refused lists before the list, then this many goals one after the other.
+    /// Descriptions, messages and refused lists before the list, then this many goals one after the
+    /// other. Of two recordings one has no description before its list, so that the first board
+    /// stands.
     fn steer(&mut self, messages: usize) {
         let goals = goals();
+        let described = self.random.one_in(2);
         for _ in 0..self.random.below(5) {
             self.approach(&goals);
-            if self.random.one_in(2) {
-                let fault = self.random.pick(&LIST_FAULTS[1..]);
-                let list = faulty_list(&mut self.random, fault, LONGEST_LIST);
-                self.list(&list);
+            match self.random.below(4) {
+                0 if described => self.offer_board(),
+                0 | 1 => self.faulty_list(&LIST_FAULTS[1..]),
+                _ => {}
             }
         }
+        if described {
+            self.last_boards();
+        }
         if !self.random.one_in(20) {
-            let list = good_list(&mut self.random);
+            let list = good_list(&mut self.random, &self.board);
             self.list(&list);
         }
-        for _ in 0..messages {
+        for number in 0..messages {
+            if number % FOCUS_MESSAGES == 0 {
+                self.focus = any_focus(&mut self.random, &self.board, &self.clusters);
+                self.work_together();
+            }
             self.steer_once(&goals);
         }
         for _ in 0..LAST_LOOKS {
@@ -123,14 +153,66 @@ impl Recorder {
         }
     }
 
-    /// Mostly a message with a goal; now and then another list, other words or mere noise.
+    /// Requests some of the processors in focus, and sets and reads control words through them.
+    fn work_together(&mut self) {
+        if self.focus.is_empty() {
+            return;
+        }
+        for _ in 0..self.random.between(1, 4) {
+            let processor = Some(self.random.pick(&self.focus));
+            self.send_toward(Goal { processor, ..Goal::REQUEST });
+        }
+        for _ in 0..3 {
+            let processor = self.random.pick(&self.focus);
+            let look = self.send_toward(Goal::set_control(processor, Outcome::OK));
+            self.send_toward(look.unwrap_or(Goal::STATUS));
+            let other = self.random.pick(&self.focus);
+            self.send_toward(Goal::set_control(other, Outcome::N7));
+        }
+    }
+
+    /// A good description, one with a fault, or noise.
+    fn offer_board(&mut self) {
+        let description = match self.random.below(6) {
+            0 => {
+                let length = self.random.between(0, LONGEST_BOARD);
+                self.random.bytes(length)
+            }
+            1 | 2 => good_fields(&mut self.random).concat(),
+            _ => {
+                let fault = self.random.pick(&BOARD_FAULTS);
+                faulty_description(&mut self.random, fault, LONGEST_BOARD)
+            }
+        };
+        self.board(&description);
+    }
+
+    /// The board for the list: mostly a good one, sometimes with refused ones before or behind it.
+    fn last_boards(&mut self) {
+        for _ in 0..self.random.pick(&[0, 0, 1, 2]) {
+            self.offer_board();
+        }
+        if !self.random.one_in(8) {
+            let fields = good_fields(&mut self.random);
+            self.board(&fields.concat());
+        }
+        for _ in 0..self.random.pick(&[0, 0, 1]) {
+            let fault = self.random.pick(&BOARD_FAULTS[1..]);
+            let description = faulty_description(&mut self.random, fault, LONGEST_BOARD);
+            self.board(&description);
+        }
+    }
+
+    fn faulty_list(&mut self, faults: &[ListFault]) {
+        let fault = self.random.pick(faults);
+        let list = faulty_list(&mut self.random, &self.board, fault, LONGEST_LIST);
+        self.list(&list);
+    }
+
+    /// Mostly a message with a goal; now and then another list or board, other words or mere noise.
     fn steer_once(&mut self, goals: &[Goal]) {
         match self.random.below(60) {
-            0 => {
-                let fault = self.random.pick(&LIST_FAULTS);
-                let list = faulty_list(&mut self.random, fault, LONGEST_LIST);
-                self.list(&list);
-            }
+            0 => self.faulty_list(&LIST_FAULTS),
             1 => {
                 let count = self.random.between(0, MOST_WORDS);
                 let words = self.random.words(count);
@@ -142,13 +224,14 @@ impl Recorder {
                 let channel = self.random.u8();
                 self.message(channel, &noise);
             }
+            3 if has_list(&self.access) => self.offer_board(),
             _ => self.approach(goals),
         }
     }
 
     /// One message toward a goal that the state allows, with a request before it where control is
-    /// needed and often lacking, and sometimes a look at the records behind it: through the other
-    /// core where a shared word was set.
+    /// needed and often lacking, and sometimes a look at the records behind it: through another
+    /// core where a word of a cluster was set.
     fn approach(&mut self, goals: &[Goal]) {
         let listed = has_list(&self.access);
         let goal = pick_goal(&mut self.random, goals, |outcome| match outcome {
@@ -157,27 +240,32 @@ impl Recorder {
             Outcome::N1 => !listed,
             _ => listed,
         });
-        if goal.needs_controller() && self.free_processors() > 1 {
+        if goal.needs_controller() && self.is_often_free() {
             self.send_toward(Goal::REQUEST);
         }
-        let shared_look = self.send_toward(goal);
+        let look = self.send_toward(goal);
         if listed && goal.outcome == Outcome::OK && self.random.one_in(2) {
-            self.send_toward(shared_look.unwrap_or(Goal::STATUS));
+            self.send_toward(look.unwrap_or(Goal::STATUS));
         }
     }
 
-    fn free_processors(&self) -> usize {
-        let rows = 0..PROCESSORS.len();
-        rows.filter(|&row| Record::load(&self.records, row).is_free()).count()
+    /// Whether more than one of the processors in focus is free, or of all if none is in focus.
+    fn is_often_free(&self) -> bool {
+        let all = self.board.processors();
+        let followed = if self.focus.is_empty() { &all } else { &self.focus };
+        let rows = followed.iter().filter_map(|&number| self.board.row_of(number));
+        let is_free = |&row: &usize| Record::load(&self.board, &self.records, row).is_free();
+        rows.filter(is_free).count() > 1
     }
 
-    /// Sends a message toward the goal; gives the look that would show through another core what it
-    /// has set, if that is shared.
+    /// Sends a message toward the goal; gives the look at another core of the cluster that would
+    /// show whether what it has set is shared.
     fn send_toward(&mut self, goal: Goal) -> Option<Goal> {
         let scene = Scene {
-            access: &self.access,
+            setup: Setup { board: &self.board, access: &self.access },
             records: &self.records,
             status: &self.status,
+            focus: &self.focus,
             most_words: MOST_WORDS,
         };
         let draft = draft(&mut self.random, &scene, goal);
@@ -185,12 +273,22 @@ impl Recorder {
             self.status(words);
         }
         let outcome = self.message(draft.channel, &draft.message);
-        Goal::shared_look(&draft.message, outcome)
+        let place = (&self.board, &self.clusters);
+        Goal::look_beside(&mut self.random, place, &draft.message, outcome)
     }
 
-    /// What published boot code sends, sometimes under a list that was made for something else.
+    /// What published boot code sends, sometimes under a list that was made for something else. It
+    /// meets the first board, which some of these recordings describe once more.
     fn follow_clients(&mut self) {
-        let list = if self.random.one_in(4) { good_list(&mut self.random) } else { client_list() };
+        if self.random.one_in(4) {
+            self.offer_board();
+            self.board(&first_fields().concat());
+        }
+        let list = if self.random.one_in(4) {
+            good_list(&mut self.random, &self.board)
+        } else {
+            client_list()
+        };
         self.list(&list);
         for (channel, message) in mixed_clients(&mut self.random) {
             if self.random.one_in(12) {
@@ -217,10 +315,11 @@ impl Recorder {
     /// A bad tag or a bad length, and behind it a good field that must not be read.
     fn add_bad_field(&mut self) {
         let long = self.random.between(1021, 65_535);
-        let bad = match self.random.below(4) {
-            0 => header_of(self.random.pick_or(&[0, 4], |random| random.between(4, 255) as u8), 0),
+        let bad = match self.random.below(5) {
+            0 => header_of(self.random.pick_or(&[0, 4, 5], |r| r.between(7, 255) as u8), 0),
             1 => header_of(TAG_LIST, self.random.pick(&[513, long])),
-            2 => header_of(TAG_STATUS, self.random.pick(&[1, 2, 3, 6, 1019, 1021, 1024, long])),
+            2 => header_of(TAG_BOARD, self.random.pick(&[513, 518, long])),
+            3 => header_of(TAG_STATUS, self.random.pick(&[1, 2, 3, 6, 1019, 1021, 1024, long])),
             _ => header_of(TAG_MESSAGE, self.random.pick(&[0, 513, long])),
         };
         self.bytes.extend(bad);

@@ -1,8 +1,10 @@
 //! Situations inside an outcome that a run has to meet as well, counted by name.
 
-use crate::access::{row_words, AccessMemory};
-use crate::board::{control_row, row_of, sharers, PROCESSORS};
-use crate::manager::{Call, GEN_IGN_BOOTVECTOR};
+use crate::access::has_entry;
+use crate::board::{Board, Class, ALONE, MOST_HOSTS, ROWS};
+use crate::harness::clusters::Clusters;
+use crate::harness::tally::Tally;
+use crate::manager::{Call, Setup, GEN_IGN_BOOTVECTOR};
 use crate::message::{read_order, Order, ANSWER_BYTES};
 use crate::outcome::{Outcome, Report};
 use crate::record::{Record, RecordMemory};
@@ -11,16 +13,25 @@ use crate::wait::Wait;
 /// Follows the messages that meet the same memories one after the other.
 #[derive(Default)]
 pub struct Watch {
-    /// by the row where a control word is kept: the processor through which it was changed last
-    changed_through: [Option<u8>; PROCESSORS.len()],
+    clusters: Clusters,
+    /// by home: the processor through which the control word there was changed last
+    changed_through: [Option<u8>; ROWS],
+    /// the R5 processor in a cluster through which a control word was changed last
+    changed_r5: Option<u8>,
 }
 
 impl Watch {
+    /// Starts anew, on a board with these clusters.
+    pub fn new(clusters: &Clusters) -> Watch {
+        Watch { clusters: clusters.clone(), ..Watch::default() }
+    }
+
     /// What the next message met and came to; none if it was refused before its processor and order
     /// were known. The records are those that it met.
     pub fn see<'a>(
         &mut self,
-        (access, before): (&AccessMemory, &RecordMemory),
+        setup: Setup<'a>,
+        before: &RecordMemory,
         call: &Call<'a>,
         report: Report,
     ) -> Option<Seen<'a>> {
@@ -28,43 +39,67 @@ impl Watch {
             return None;
         }
         let (processor, order) = read_order(call.message).ok()?;
-        let row = row_of(processor)?;
-        let changed_through = &mut self.changed_through[control_row(row)];
+        let board = setup.board;
+        let row = board.row_of(processor)?;
+        let load = |other: u8| board.row_of(other).map(|row| Record::load(board, before, row));
         let seen = Seen {
+            board,
             sender: call.channel,
             processor,
+            row,
             order,
-            has_entry: row_words(access, row)[0] != 0,
-            before: Record::load(before, row),
-            sharer: sharers(row).next().map(|sharer| Record::load(before, sharer)),
-            changed_through: *changed_through,
+            has_entry: has_entry(setup.access, row),
+            before: Record::load(board, before, row),
+            sharers: board.sharers(processor).into_iter().filter_map(load).collect(),
+            changed_through: self.changed_through[board.home_at(row)],
+            r5_mate: self.changed_mate(processor).and_then(load),
             status: call.status,
             report,
         };
-        if seen.changed_control() {
-            *changed_through = Some(processor);
-        }
+        self.follow(&seen);
         Some(seen)
+    }
+
+    /// The other R5 processor of the same cluster through which a control word was changed last.
+    fn changed_mate(&self, processor: u8) -> Option<u8> {
+        let cluster = self.clusters.cluster(processor);
+        let is_mate = |&mate: &u8| mate != processor && self.clusters.cluster(mate) == cluster;
+        self.changed_r5.filter(is_mate)
+    }
+
+    fn follow(&mut self, seen: &Seen) {
+        if !seen.changed_control() {
+            return;
+        }
+        self.changed_through[seen.board.home_at(seen.row)] = Some(seen.processor);
+        let in_cluster = self.clusters.cluster(seen.processor) != ALONE;
+        if in_cluster && seen.board.class_at(seen.row) == Class::R5 {
+            self.changed_r5 = Some(seen.processor);
+        }
     }
 }
 
 /// A message with a whole order, what it met and what it came to.
 pub struct Seen<'a> {
-    sender: u8,
-    processor: u8,
+    pub(super) board: &'a Board,
+    pub(super) sender: u8,
+    pub(super) processor: u8,
+    pub(super) row: usize,
     order: Order,
     has_entry: bool,
     before: Record,
-    /// the other core of the cluster
-    sharer: Option<Record>,
+    /// the other processors that have the control word
+    sharers: Vec<Record>,
     /// the processor through which the control word was changed before
     changed_through: Option<u8>,
+    /// another R5 processor of the cluster, through which its own control word was changed
+    r5_mate: Option<Record>,
     status: &'a [u32],
     report: Report,
 }
 
 impl Seen<'_> {
-    fn ok(&self) -> bool {
+    pub(super) fn ok(&self) -> bool {
         self.report.outcome == Outcome::OK
     }
 
@@ -87,7 +122,7 @@ impl Seen<'_> {
     }
 
     /// Whether this is a set control that was carried out and changed the word.
-    fn changed_control(&self) -> bool {
+    pub(super) fn changed_control(&self) -> bool {
         let Order::SetControl(flags) = self.order else {
             return false;
         };
@@ -95,12 +130,10 @@ impl Seen<'_> {
         self.ok() && (flags.set & was_clear) | (flags.clear & was_set) != 0
     }
 
-    /// Whether this changed the control word through `processor` while the other core of the
-    /// cluster passed the test.
-    fn set_through(&self, processor: u8, test: impl Fn(&Record) -> bool) -> bool {
-        self.processor == processor
-            && self.changed_control()
-            && self.sharer.is_some_and(|r| test(&r))
+    /// Whether this changed a shared control word while the other cores that have it passed the
+    /// test.
+    fn shared_set(&self, test: impl Fn(&Record) -> bool) -> bool {
+        self.changed_control() && !self.sharers.is_empty() && self.sharers.iter().all(test)
     }
 
     /// Whether the processor is held, but not by the sender.
@@ -108,17 +141,47 @@ impl Seen<'_> {
         !record.is_free() && !record.is_controlled_by(self.sender)
     }
 
-    /// Whether this is a set through `processor` that is refused to the other core's controller.
-    fn set_refused(&self, processor: u8) -> bool {
-        let is_set = matches!(self.order, Order::SetControl(_)) && self.processor == processor;
+    /// Whether this is a set that is refused to the controller of another core that has the word.
+    fn shared_set_refused(&self) -> bool {
+        let is_set = matches!(self.order, Order::SetControl(_));
         let refused = self.report.outcome == Outcome::N7;
-        is_set && refused && self.sharer.is_some_and(|r| r.is_controlled_by(self.sender))
+        is_set && refused && self.sharers.iter().any(|r| r.is_controlled_by(self.sender))
     }
 
-    /// Whether this answer shows through one core a word that was last changed through the other.
-    fn read_through(&self, changed: u8, read: u8) -> bool {
-        let answered = self.order == Order::GetStatus && self.report.written == ANSWER_BYTES;
-        answered && self.processor == read && self.changed_through == Some(changed)
+    fn status_answered(&self) -> bool {
+        self.order == Order::GetStatus && self.report.written == ANSWER_BYTES
+    }
+
+    /// Whether this answer shows through one core a word that was last changed through another.
+    fn shared_read(&self) -> bool {
+        let changed_elsewhere = self.changed_through.is_some_and(|p| p != self.processor);
+        self.status_answered() && changed_elsewhere
+    }
+
+    /// Whether this answer shows another word than the one that was changed through an R5 processor
+    /// of the same cluster.
+    fn single_read(&self) -> bool {
+        let other = |mate: &Record| mate.control != self.before.control;
+        self.status_answered() && self.r5_mate.as_ref().is_some_and(other)
+    }
+
+    /// Whether this names the processor, on the board that stands at the start.
+    fn first(&self, processor: u8) -> bool {
+        self.processor == processor && *self.board == Board::first()
+    }
+
+    /// How many processors have the control word.
+    fn cluster(&self) -> usize {
+        self.sharers.len() + 1
+    }
+
+    /// Whether this was carried out on another board than the one that stands at the start.
+    fn elsewhere(&self) -> bool {
+        self.ok() && *self.board != Board::first()
+    }
+
+    fn secure_sender(&self) -> bool {
+        self.board.is_secure(u16::from(self.sender))
     }
 
     /// Whether this is a wait with the outcome that passes the test.
@@ -152,7 +215,7 @@ impl Seen<'_> {
 
 type Test = fn(&Seen) -> bool;
 
-const SITUATIONS: [(&str, Test); 27] = [
+const SITUATIONS: [(&str, Test); 43] = [
     ("gained while free", |s| s.requested() && s.before.is_free()),
     ("gained without an entry", |s| s.requested() && !s.has_entry),
     ("kept by the recovery master", |s| s.requested() && s.before.is_controlled_by(s.sender)),
@@ -185,40 +248,54 @@ const SITUATIONS: [(&str, Test); 27] = [
         s.waited(Outcome::N9, |wait, _| wait.matches > wait.waits)
     }),
     ("too few words for an early run", |s| s.waited(Outcome::R3, |wait, _| s.early_run(wait))),
-    ("control set through 32, read through 33", |s| s.read_through(32, 33)),
-    ("control set through 33, read through 32", |s| s.read_through(33, 32)),
-    ("control set through 32, 33 free", |s| s.set_through(32, Record::is_free)),
-    ("control set through 33, 32 free", |s| s.set_through(33, Record::is_free)),
-    ("control set through 32, 33 of another host", |s| s.set_through(32, |r| s.of_another_host(r))),
-    ("control set through 33, 32 of another host", |s| s.set_through(33, |r| s.of_another_host(r))),
-    ("control of 33 no right to set through 32", |s| s.set_refused(32)),
-    ("control of 32 no right to set through 33", |s| s.set_refused(33)),
+    ("control set through 32, read through 33", |s| s.first(33) && s.shared_read()),
+    ("control set through 33, read through 32", |s| s.first(32) && s.shared_read()),
+    ("control set through 32, 33 free", |s| s.first(32) && s.shared_set(Record::is_free)),
+    ("control set through 33, 32 free", |s| s.first(33) && s.shared_set(Record::is_free)),
+    ("control set through 32, 33 of another host", |s| {
+        s.first(32) && s.shared_set(|r| s.of_another_host(r))
+    }),
+    ("control set through 33, 32 of another host", |s| {
+        s.first(33) && s.shared_set(|r| s.of_another_host(r))
+    }),
+    ("control of 33 no right to set through 32", |s| s.first(32) && s.shared_set_refused()),
+    ("control of 32 no right to set through 33", |s| s.first(33) && s.shared_set_refused()),
+    ("control set through one of three, read through another", |s| {
+        s.cluster() == 3 && s.shared_read()
+    }),
+    ("control set through one of three, the others free", |s| {
+        s.cluster() == 3 && s.shared_set(Record::is_free)
+    }),
+    ("control set through one of three, the others of others", |s| {
+        s.cluster() == 3 && s.shared_set(|r| s.of_another_host(r))
+    }),
+    ("control of one of three no right to set through another", |s| {
+        s.cluster() == 3 && s.shared_set_refused()
+    }),
+    ("control set through one of 32, read through another", |s| {
+        s.cluster() == ROWS && s.shared_read()
+    }),
+    ("control set through an R5 core, not read through its mate", |s| s.single_read()),
+    ("last row of 32 processors", |s| {
+        s.ok() && s.row == ROWS - 1 && s.board.processors().len() == ROWS
+    }),
+    ("sender of 64 hosts", |s| s.ok() && s.board.senders().len() == MOST_HOSTS),
+    ("only processor of its board", |s| s.ok() && s.board.processors().len() == 1),
+    ("secure host of another board", |s| s.elsewhere() && s.secure_sender()),
+    ("host of another board that is not secure", |s| s.elsewhere() && !s.secure_sender()),
+    ("host and processor of one number", |s| s.ok() && s.sender == s.processor),
+    ("processor 1 of another board", |s| s.elsewhere() && s.processor == 1),
+    ("processor 255", |s| s.ok() && s.processor == 255),
+    ("host 1", |s| s.ok() && s.sender == 1),
+    ("host 255", |s| s.ok() && s.sender == 255),
 ];
 
-/// How often each situation was met.
-#[derive(Default)]
-pub struct Situations([u64; SITUATIONS.len()]);
+/// A tally of these situations, none met yet.
+pub fn situations() -> Tally {
+    Tally::new(SITUATIONS.map(|(name, _)| name))
+}
 
-impl Situations {
-    /// Counts all that holds of one message.
-    pub fn count(&mut self, seen: &Seen) {
-        for (count, (_, test)) in self.0.iter_mut().zip(SITUATIONS) {
-            *count += u64::from(test(seen));
-        }
-    }
-
-    /// The names of those never met.
-    pub fn gaps(&self) -> Vec<String> {
-        let never = |place: &usize| self.0[*place] == 0;
-        (0..SITUATIONS.len())
-            .filter(never)
-            .map(|place| format!("{}: 0", SITUATIONS[place].0))
-            .collect()
-    }
-
-    /// One line each.
-    pub fn table(&self) -> String {
-        let line = |(count, (name, _)): (&u64, (&str, Test))| format!("\n{name:44}{count:>8}");
-        self.0.iter().zip(SITUATIONS).map(line).collect()
-    }
+/// Counts all that holds of one message.
+pub fn count_situations(tally: &mut Tally, seen: &Seen) {
+    tally.count(SITUATIONS.map(|(_, test)| test(seen)));
 }

@@ -1,14 +1,24 @@
 //! The message call over memories that lists cannot leave, and the order of its tests.
 
 use super::*;
+use crate::access::ACCESS_WORDS;
 use crate::bench::bytes_of;
 use crate::harness::drafts::{draft, Scene};
 use crate::harness::goals::goals;
 use crate::harness::memories::{any_access, any_records};
 use crate::harness::random::Random;
 use crate::message::Kind;
+use crate::record::RECORD_WORDS;
 
-const LISTED: AccessMemory = [1, 3, 5, 0, 0, 3, 6, 10, 0, 0, 0, 0, 0, 0, 0, 0, 0];
+/// What the bench list leaves.
+const LISTED: AccessMemory = {
+    let mut access = [0; ACCESS_WORDS];
+    (access[0], access[1], access[2]) = (1, 3, 5);
+    (access[5], access[6], access[7]) = (3, 6, 10);
+    access
+};
+
+const NO_RECORDS: RecordMemory = [0; RECORD_WORDS];
 
 /// Carries out a message and gives its report, the records and the answer buffer, which held 0xEE.
 fn run(
@@ -20,7 +30,8 @@ fn run(
     let message = bytes_of(text);
     let call = Call { channel: message[2], message: &message, status };
     let mut answer = vec![0xEE; 40];
-    let report = handle(&access, &mut records, &call, &mut answer);
+    let setup = Setup { board: &Board::first(), access: &access };
+    let report = handle(setup, &mut records, &call, &mut answer);
     (report, records, answer)
 }
 
@@ -29,7 +40,7 @@ fn outcome(access: AccessMemory, records: RecordMemory, text: &str) -> Outcome {
 }
 
 fn records_with(words: &[(usize, u32)]) -> RecordMemory {
-    let mut records = [0; 20];
+    let mut records = NO_RECORDS;
     for (place, word) in words {
         records[*place] = *word;
     }
@@ -61,7 +72,8 @@ fn outcomes_come_in_order() {
             _ => {}
         }
         let call = Call { channel, message: &message, status: &status };
-        seen.push(handle(&access, &mut [0; 20], &call, &mut vec![0; room]).outcome);
+        let setup = Setup { board: &Board::first(), access: &access };
+        seen.push(handle(setup, &mut NO_RECORDS.clone(), &call, &mut vec![0; room]).outcome);
     }
     use Outcome::*;
     assert_eq!(seen, [R1, R2, N1, N2, N3, N4, N6, N7, N8, R3, N9, OK, OK]);
@@ -69,7 +81,7 @@ fn outcomes_come_in_order() {
 
 #[test]
 fn refusals_change_no_record_and_answer_nak() {
-    let held = records_with(&[(0, 5), (3, 0x100), (4, 1)]);
+    let held = records_with(&[(0, 5), (3, 0x100), (128, 1)]);
     let (report, records, answer) = run(LISTED, held, "01 C0 03 09 02 00 00 00 01", &[]);
     assert_eq!((report.outcome, report.written), (Outcome::N7, 8));
     assert_eq!(records, held);
@@ -79,7 +91,7 @@ fn refusals_change_no_record_and_answer_nak() {
 
 #[test]
 fn status_answer_is_29_bytes_and_no_more_is_written() {
-    let held = records_with(&[(1, 0x0403_0201), (2, 5), (3, 0x100), (4, 3)]);
+    let held = records_with(&[(1, 0x0403_0201), (2, 5), (3, 0x100), (128, 3)]);
     let (report, records, answer) = run(LISTED, held, "00 C4 05 01 FF 00 00 00 01", &[0x13, 7]);
     assert_eq!((report.outcome, report.written), (Outcome::OK, 29));
     assert_eq!(records, held);
@@ -91,7 +103,7 @@ fn status_answer_is_29_bytes_and_no_more_is_written() {
 
 #[test]
 fn nothing_is_written_unless_asked_for() {
-    let (report, records, answer) = run(LISTED, [0; 20], "00 C0 05 01 FD FF FF FF 01", &[]);
+    let (report, records, answer) = run(LISTED, NO_RECORDS, "00 C0 05 01 FD FF FF FF 01", &[]);
     assert_eq!((report.outcome, report.written), (Outcome::OK, 0));
     assert_eq!(records, records_with(&[(0, 5)]));
     assert!(answer.iter().all(|&byte| byte == 0xEE));
@@ -106,7 +118,8 @@ fn channel_has_to_be_a_board_host_and_the_header_host() {
     };
     let judged = |channel, host| {
         let call = Call { channel, message: &message(host), status: &[] };
-        handle(&LISTED, &mut [0; 20], &call, &mut [0; 29]).outcome
+        let setup = Setup { board: &Board::first(), access: &LISTED };
+        handle(setup, &mut NO_RECORDS.clone(), &call, &mut [0; 29]).outcome
     };
     assert_eq!(judged(3, 3), Outcome::OK);
     assert_eq!([judged(0, 0), judged(7, 7), judged(3, 5), judged(5, 3)], [Outcome::N2; 4]);
@@ -115,10 +128,10 @@ fn channel_has_to_be_a_board_host_and_the_header_host() {
 #[test]
 fn processor_without_entry_is_open() {
     let request = "00 C0 0D 01 02 00 00 00 20";
-    assert_eq!(outcome(LISTED, [0; 20], request), Outcome::OK);
-    assert_eq!(outcome(LISTED, records_with(&[(10, 13)]), request), Outcome::N7);
+    assert_eq!(outcome(LISTED, NO_RECORDS, request), Outcome::OK);
+    assert_eq!(outcome(LISTED, records_with(&[(8, 13)]), request), Outcome::N7);
     let handover = "05 C0 0D 01 02 00 00 00 20";
-    let to = |host: &str| outcome(LISTED, records_with(&[(10, 13)]), &[handover, host].join(" "));
+    let to = |host: &str| outcome(LISTED, records_with(&[(8, 13)]), &[handover, host].join(" "));
     assert_eq!([to("0C"), to("0D"), to("00"), to("07")], {
         use Outcome::{N8, OK};
         [OK, OK, N8, N8]
@@ -131,7 +144,7 @@ fn odd_memory_is_judged_by_full_words() {
     access[1] = 0x103;
     access[2] = 7;
     let request = "00 C0 03 01 02 00 00 00 01";
-    assert_eq!(outcome(access, [0; 20], request), Outcome::N7);
+    assert_eq!(outcome(access, NO_RECORDS, request), Outcome::N7);
     let release = "01 C0 03 01 02 00 00 00 01";
     assert_eq!(outcome(LISTED, records_with(&[(0, 0x103)]), release), Outcome::N7);
     let handover = "05 C0 03 01 02 00 00 00 01 07";
@@ -140,38 +153,42 @@ fn odd_memory_is_judged_by_full_words() {
 
 #[test]
 fn set_words_add_and_remove_bits() {
-    let held = records_with(&[(10, 3), (13, 0x1000_0009), (14, 0x103)]);
+    let held = records_with(&[(8, 3), (11, 0x1000_0009), (130, 0x103)]);
     let config = "00 C1 03 01 02 00 00 00 20 01 00 00 00 02 00 00 00 06 01 00 00 01 00 00 00";
     let (report, records, _) = run(LISTED, held, config, &[]);
     assert_eq!(report.outcome, Outcome::OK);
-    assert_eq!(records[10..15], [3, 1, 2, 0x1000_010E, 0x103]);
+    assert_eq!(records[8..12], [3, 1, 2, 0x1000_010E]);
+    assert_eq!(records[128..132], [0, 0, 0x103, 0]);
     let control = "01 C1 03 01 02 00 00 00 20 02 00 00 00 01 01 00 00";
     let (report, records, _) = run(LISTED, held, control, &[]);
     assert_eq!(report.outcome, Outcome::OK);
-    assert_eq!(records[10..15], [3, 0, 0, 0x1000_0009, 2]);
+    assert_eq!(records[8..12], [3, 0, 0, 0x1000_0009]);
+    assert_eq!(records[128..132], [0, 0, 2, 0]);
 }
 
 #[test]
 fn set_through_the_second_core_changes_the_word_of_the_first() {
-    let held = records_with(&[(10, 5), (14, 0x8000_0103), (15, 3), (19, 0xEEEE_EEEE)]);
+    let held = records_with(&[(8, 5), (130, 0x8000_0103), (12, 3), (131, 0xEEEE_EEEE)]);
     let control = "01 C1 03 01 02 00 00 00 21 00 00 00 00 01 01 00 00";
     let (report, records, _) = run(LISTED, held, control, &[]);
     assert_eq!(report.outcome, Outcome::OK);
-    let changed = [(10, 5), (14, 0x8000_0002), (15, 3), (19, 0xEEEE_EEEE)];
+    let changed = [(8, 5), (130, 0x8000_0002), (12, 3), (131, 0xEEEE_EEEE)];
     assert_eq!(records, records_with(&changed));
     let (_, _, answer) = run(LISTED, records, "00 C4 03 01 02 00 00 00 21", &[0]);
     assert_eq!(answer[21..25], bytes_of("02 00 00 80"));
 }
 
-/// Over memories of any content: the place for a control word in 33's row decides nothing, and it
-/// keeps its value.
+/// Over memories of any content: the control word at a home that no row of the board has decides
+/// nothing, and it keeps its value.
 #[test]
-fn place_in_the_second_row_is_not_used() {
-    const PLACE: usize = 19;
-    let (mut random, goals) = (Random::new(7, 0), goals());
+fn place_of_no_home_is_not_used() {
+    const PLACE: usize = 128 + 3;
+    let (mut random, goals, board) = (Random::new(7, 0), goals(), Board::first());
     for _ in 0..20_000 {
-        let (access, before) = (any_access(&mut random), any_records(&mut random));
-        let scene = Scene { access: &access, records: &before, status: &[], most_words: 255 };
+        let access = any_access(&mut random, &board);
+        let before = any_records(&mut random, &board);
+        let setup = Setup { board: &board, access: &access };
+        let scene = Scene { setup, records: &before, status: &[], focus: &[], most_words: 255 };
         let goal = random.pick(&goals);
         let draft = draft(&mut random, &scene, goal);
         let status = draft.status.unwrap_or_default();
@@ -179,9 +196,10 @@ fn place_in_the_second_row_is_not_used() {
         let given = |place: u32| {
             let (mut records, mut answer) = (before, [0xEE; ANSWER_BYTES]);
             records[PLACE] = place;
-            let report = handle(&access, &mut records, &call, &mut answer);
-            assert_eq!(records[PLACE], place);
-            (report, answer, records[..PLACE].to_vec())
+            let report = handle(setup, &mut records, &call, &mut answer);
+            let kept = std::mem::replace(&mut records[PLACE], 0);
+            assert_eq!(kept, place);
+            (report, answer, records)
         };
         assert_eq!(given(before[PLACE]), given(random.u32()));
     }
@@ -193,12 +211,12 @@ fn bit_28_keeps_the_vector_and_is_never_stored() {
     let config = "00 C1 03 01 02 00 00 00 01 01 00 00 00 02 00 00 00 00 01 00 00 01 00 00 10";
     let (report, records, _) = run(LISTED, held, config, &[]);
     assert_eq!(report.outcome, Outcome::OK);
-    assert_eq!(records[..5], [3, 0x80, 0, 0x100, 0]);
+    assert_eq!(records[..4], [3, 0x80, 0, 0x100]);
 }
 
 #[test]
 fn wrong_flags_are_refused() {
-    let held = records_with(&[(0, 3), (10, 3)]);
+    let held = records_with(&[(0, 3), (8, 3)]);
     let control = |processor: &str, words: &str| {
         outcome(LISTED, held, &["01 C1 03 01 02 00 00 00", processor, words].join(" "))
     };
@@ -216,7 +234,42 @@ fn too_few_words_come_before_an_early_run() {
     let wait = "01 C4 03 0E 02 00 00 00 01 03 01 00 00 01 00 00 00 00 00 00 00 00 00 00 00 00 00 \
         00 00";
     assert_eq!(bytes_of(wait).len(), Kind::WaitStatus.size());
-    let (report, _, _) = run(LISTED, [0; 20], wait, &[1, 1]);
+    let (report, _, _) = run(LISTED, NO_RECORDS, wait, &[1, 1]);
     assert_eq!((report.outcome, report.checks, report.written), (Outcome::R3, 0, 0));
-    assert_eq!(run(LISTED, [0; 20], wait, &[1, 1, 1]).0.checks, 1);
+    assert_eq!(run(LISTED, NO_RECORDS, wait, &[1, 1, 1]).0.checks, 1);
+}
+
+/// The answer names the processor that the message names, and both have what the row has.
+#[test]
+fn two_processors_on_one_row_have_one_record() {
+    let mut board = Board::first();
+    board.0[256 + 200] = 0;
+    let setup = Setup { board: &board, access: &LISTED };
+    let records = records_with(&[(0, 3), (1, 0x80), (128, 2)]);
+    for processor in [1, 200] {
+        let mut message = bytes_of("00 C4 03 01 02 00 00 00 00");
+        message[8] = processor;
+        let call = Call { channel: 3, message: &message, status: &[0x13] };
+        let mut answer = [0; ANSWER_BYTES];
+        assert_eq!(handle(setup, &mut records.clone(), &call, &mut answer).outcome, Outcome::OK);
+        let fields = [&[processor], &bytes_of("80 00 00 00 00 00 00 00 00 00 00 00 02")[..]];
+        assert_eq!(answer[8..22], fields.concat());
+    }
+}
+
+/// The board says who is a host and which class a row has; a home may be anywhere.
+#[test]
+fn odd_boards_are_read_as_they_are() {
+    let mut board = Board::first();
+    (board.0[77], board.0[256], board.0[512 + 9], board.0[544 + 9]) = (0xFF, 9, 0x80, 0xE1);
+    let setup = Setup { board: &board, access: &LISTED };
+    let mut records = records_with(&[(36, 77), (129, 1)]);
+    let mut judged = |text: &str| {
+        let message = bytes_of(text);
+        let call = Call { channel: 77, message: &message, status: &[0x13] };
+        handle(setup, &mut records, &call, &mut [0; ANSWER_BYTES]).outcome
+    };
+    assert_eq!(judged("01 C1 4D 01 02 00 00 00 00 00 01 00 00 00 00 00 00"), Outcome::N8);
+    assert_eq!(judged("01 C1 4D 01 02 00 00 00 00 02 00 00 00 01 00 00 00"), Outcome::OK);
+    assert_eq!(records, records_with(&[(36, 77), (129, 2)]));
 }

@@ -56,7 +56,7 @@ fn verdicts_are_printed_by_number() {
 
 #[test]
 fn bad_tags_are_judged_alone() {
-    for tag in [0, 4, 131, 255] {
+    for tag in [0, 4, 5, 7, 131, 134, 255] {
         assert_eq!(lines(&[tag]), "bad record\n");
         assert_eq!(lines(&[&[tag], &field(TAG_LIST, &[])[..]].concat()), "bad record\n");
     }
@@ -77,11 +77,12 @@ fn bad_lengths_are_judged_before_the_body() {
         let low_high = length.to_le_bytes();
         lines(&[tag, low_high[0], low_high[1]])
     };
-    let bad = [(1, 513), (2, 1), (2, 1022), (2, 1024), (3, 0), (3, 513), (1, 0xFFFF)];
+    let bad =
+        [(1, 513), (2, 1), (2, 1022), (2, 1024), (3, 0), (3, 513), (1, 0xFFFF), (6, 513), (6, 768)];
     for (tag, length) in bad {
         assert_eq!(judged(tag, length), "bad record\n", "{tag} {length}");
     }
-    for (tag, length) in [(1, 512), (2, 1020), (3, 512), (3, 1)] {
+    for (tag, length) in [(1, 512), (2, 1020), (3, 512), (3, 1), (6, 512)] {
         assert_eq!(judged(tag, length), "cut record\n", "{tag} {length}");
     }
 }
@@ -91,4 +92,20 @@ fn message_may_be_empty_or_long() {
     assert_eq!(lines(&message_field(3, &[])), "R2 0 0 -\n");
     assert_eq!(lines(&message_field(3, &[0; 511])), "R2 0 0 -\n");
     assert_eq!(lines(&message_field(3, &GET_STATUS)), "N1 0 0 00c4030000000000\n");
+}
+
+#[test]
+fn boards_are_printed_by_number() {
+    let host = [1, 2, 0, 9, 1];
+    let fields = [
+        field(TAG_BOARD, &host),
+        field(TAG_BOARD, &host[..4]),
+        field(TAG_BOARD, &[host, host].concat()),
+        field(TAG_BOARD, &[]),
+        field(TAG_LIST, &bench_list()),
+        field(TAG_BOARD, &[1, 2, 0, 3, 1, 2, 3, 0, 1, 0, 0]),
+        field(TAG_LIST, &bench_list()[..291]),
+    ];
+    let expected = "board OK\nboard D1\nboard D3\nboard OK\nlist A5\nboard OK\nlist A2\n";
+    assert_eq!(lines(&fields.concat()), expected);
 }

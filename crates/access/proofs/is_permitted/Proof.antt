@@ -22,7 +22,7 @@ returns : tie.Need-returns
 returns c =
     let a = c .before .before .before .before .args in
     c .is-active .ensures
-    ∙ sym (open-row (a .access .now) (a .row) (a .host) (sym (c .before .before .word-at .ensures) ∙ c .before .if1 .taken))
+    ∙ sym (open-row _ (a .access .now) (a .row) (a .host) (sym (c .before .before .word-at .ensures) ∙ c .before .if1 .taken))
 
 add-word-at : tie.Need-add-word-at
 add-word-at c = search needs
@@ -52,7 +52,7 @@ returns-2 c =
       c .before .word-at3 .ensures,
       c .word-at4 .ensures,
     )
-    (sym (closed-row (a .access .now) (a .row) (a .host) (rw (c .before .before .before .before .word-at .ensures) at some)))
+    (sym (closed-row _ (a .access .now) (a .row) (a .host) (rw (c .before .before .before .before .word-at .ensures) at some)))
 
 pub is-permitted-spec : {M : Type 1} → statement M
 is-permitted-spec =

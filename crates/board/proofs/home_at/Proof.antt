@@ -1,24 +1,21 @@
--- `board::home_at` meets its contract. A test over the homes of the code is computed here (`refl`); past the last row the home is the row
--- that was asked for. Assumes nothing.
-use mathlib.Core.Path.{refl, sym}
+-- `board::home_at` meets its contract: any byte is a home, and past the rows it is the one that the definition gives. Assumes nothing.
+use native.Mathlib.Omega.{arith}
 use borrow.Author.Needs.{needs}
-use Rattle.rules.specs.Table.{placeOf, allFrom}
-use Rattle.rules.specs.Board.{ours, rows, clusterAt, homeAt}
-use Rattle.rules.proofs.Tests.{allFrom-gives}
-use Rattle.rules.proofs.Homes.{home-past}
+use Rattle.board.proofs.Read.{home-read, home-past}
 use Rattle.board.proofs.home_at.Statement.{statement}
 use Rattle.board.proofs.home_at.Tie as tie
 
-array-read-result : tie.Need-array-read-result
-array-read-result c = search needs
+add-result : tie.Need-add-result
+add-result c = search needs
+
+element-copy-out-result : tie.Need-element-copy-out-result
+element-copy-out-result c = search needs
 
 returns : tie.Need-returns
-unfolding allFrom homeAt clusterAt placeOf ours
-returns c = rw (allFrom-gives (homeAt ours), refl, array-read-result c)
+returns c = (home-read _ _ (c .before .if1 .taken), omega arith)
 
 returns-2 : tie.Need-returns-2
-unfolding rows ours
-returns-2 c = sym (home-past ours _ (c .if1 .left))
+returns-2 c = (home-past _ _ (c .if1 .left), omega arith)
 
 pub home-at-spec : {M : Type 1} → statement M
-home-at-spec = tie.close (tie.spec array-read-result returns returns-2)
+home-at-spec = tie.close (tie.spec add-result element-copy-out-result returns returns-2)

@@ -1,20 +1,17 @@
--- `board::row_of` meets its contract. The test over the whole table is computed here, on the 256 numbers of the code (`refl`), and
--- `table-rule` turns it into the rule at the byte that is read. Assumes nothing.
-use mathlib.Core.Path.{refl}
+-- `board::row_of` meets its contract. Assumes nothing.
 use borrow.Author.Needs.{needs}
-use Rattle.rules.specs.Table.{allFrom, placeOf}
-use Rattle.rules.specs.Board.{ours, rowOf, givesRows}
-use Rattle.rules.proofs.Rows.{table-rule}
+use Rattle.board.proofs.Read.{row-read}
 use Rattle.board.proofs.row_of.Statement.{statement}
 use Rattle.board.proofs.row_of.Tie as tie
 
--- a processor byte is below 256
-array-read-result : tie.Need-array-read-result
-array-read-result c = search needs
+add-result : tie.Need-add-result
+add-result c = search needs
+
+element-copy-out-result : tie.Need-element-copy-out-result
+element-copy-out-result c = search needs
 
 returns : tie.Need-returns
-unfolding givesRows allFrom rowOf placeOf ours
-returns c = rw (table-rule ours, refl, array-read-result c)
+returns c = row-read _ (c .before .args .processor) (search needs)
 
 pub row-of-spec : {M : Type 1} → statement M
-row-of-spec = tie.close (tie.spec array-read-result returns)
+row-of-spec = tie.close (tie.spec add-result element-copy-out-result returns)

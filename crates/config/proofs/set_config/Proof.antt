@@ -5,6 +5,7 @@ use denote.Ref.{now}
 use Rattle.rules.specs.declared.Kind.the-variants.{SetConfig}
 use Rattle.rules.specs.Message.{Query}
 use Rattle.rules.specs.Outcome.{configGood}
+use Rattle.board.specs.Memory.{boardIn}
 use Rattle.operations.specs.Operation.{asked}
 use Rattle.operations.proofs.Rows.{Loaded, loaded-at, too-short, off-board, lacks-right, by-class, wrong-operands, admitted, refuses, carries-own}
 use borrow.Author.Needs.{needs}
@@ -18,10 +19,10 @@ abbrev asks : tie.After-load → Query
 asks c = asked (start c .args .channel) (now (start c .args .message)) []
 
 at-N7 : (c : tie.After-load)
-    → Loaded SetConfig (asks c) (now (start c .args .records)) (c .before .before .before .row-in .result) (c .load .result)
+    → Loaded (boardIn (now (start c .args .board))) SetConfig (asks c) (now (start c .args .records)) (c .before .before .before .before .row-in .result) (c .load .result)
 at-N7 c =
-    loaded-at (c .before .before .before .before .if1 .left) refl (c .before .before .before .row-in .ensures)
-    (c .before .before .if2 .left)
+    loaded-at (c .before .before .before .before .before .if1 .left) refl (c .before .before .before .before .row-in .ensures)
+    (c .before .before .before .if2 .left)
     (c .load .ensures)
 
 returns : tie.Need-returns
@@ -39,9 +40,6 @@ load-requires c κs = search needs
 is-controller-requires : tie.Need-is-controller-requires
 is-controller-requires c κs = search needs
 
-same-length : tie.Need-same-length
-same-length c = search needs
-
 returns-3 : tie.Need-returns-3
 returns-3 c access =
     refuses (lacks-right (at-N7 (c .before .before) .reached) (c .before .is-controller .ensures) (c .if3 .taken))
@@ -51,9 +49,6 @@ class-at-requires c κs = search needs
 
 config-good-requires : tie.Need-config-good-requires
 config-good-requires c κs = search needs
-
-same-length-2 : tie.Need-same-length-2
-same-length-2 c = search needs
 
 returns-4 : tie.Need-returns-4
 returns-4 c access =
@@ -69,20 +64,17 @@ with-config-requires c κs = search needs
 store-own-requires : tie.Need-store-own-requires
 store-own-requires c κs = search needs
 
-same-length-3 : tie.Need-same-length-3
-same-length-3 c = search needs
-
 returns-5 : tie.Need-returns-5
 returns-5 c access =
-    let d = c .before .before .before .before .before in
+    let d = c .before .before .before in
     let l = at-N7 (d .before .before .before .before .before) in
     carries-own refl refl l
     (admitted (l .reached) (d .before .before .before .before .is-controller .ensures) (d .before .before .before .if3 .left)
     (by-class (l .reached) configGood (d .before .before .class-at .ensures) (d .before .config-good .ensures))
     (d .if4 .left))
-    (c .before .before .before .with-config .ensures)
+    (c .before .with-config .ensures)
     (λ r. refl)
-    (c .before .before .store-own .ensures)
+    (c .store-own .ensures)
 
 pub set-config-spec : {M : Type 1} → statement M
 set-config-spec =
@@ -93,13 +85,10 @@ set-config-spec =
     returns-2
     load-requires
     is-controller-requires
-    same-length
     returns-3
     class-at-requires
     config-good-requires
-    same-length-2
     returns-4
     with-config-requires
     store-own-requires
-    same-length-3
     returns-5)

@@ -5,6 +5,7 @@ use denote.Ref.{now}
 use Rattle.rules.specs.declared.Kind.the-variants.{SetControl}
 use Rattle.rules.specs.Message.{Query}
 use Rattle.rules.specs.Outcome.{controlGood}
+use Rattle.board.specs.Memory.{boardIn}
 use Rattle.operations.specs.Operation.{asked}
 use Rattle.operations.proofs.Rows.{Loaded, loaded-at, too-short, off-board, lacks-right, by-class, wrong-operands, admitted, refuses, carries-control}
 use borrow.Author.Needs.{needs}
@@ -18,10 +19,10 @@ abbrev asks : tie.After-load → Query
 asks c = asked (start c .args .channel) (now (start c .args .message)) []
 
 at-N7 : (c : tie.After-load)
-    → Loaded SetControl (asks c) (now (start c .args .records)) (c .before .before .before .row-in .result) (c .load .result)
+    → Loaded (boardIn (now (start c .args .board))) SetControl (asks c) (now (start c .args .records)) (c .before .before .before .before .row-in .result) (c .load .result)
 at-N7 c =
-    loaded-at (c .before .before .before .before .if1 .left) refl (c .before .before .before .row-in .ensures)
-    (c .before .before .if2 .left)
+    loaded-at (c .before .before .before .before .before .if1 .left) refl (c .before .before .before .before .row-in .ensures)
+    (c .before .before .before .if2 .left)
     (c .load .ensures)
 
 returns : tie.Need-returns
@@ -39,9 +40,6 @@ load-requires c κs = search needs
 is-controller-requires : tie.Need-is-controller-requires
 is-controller-requires c κs = search needs
 
-same-length : tie.Need-same-length
-same-length c = search needs
-
 returns-3 : tie.Need-returns-3
 returns-3 c access =
     refuses (lacks-right (at-N7 (c .before .before) .reached) (c .before .is-controller .ensures) (c .if3 .taken))
@@ -51,9 +49,6 @@ class-at-requires c κs = search needs
 
 control-good-requires : tie.Need-control-good-requires
 control-good-requires c κs = search needs
-
-same-length-2 : tie.Need-same-length-2
-same-length-2 c = search needs
 
 returns-4 : tie.Need-returns-4
 returns-4 c access =
@@ -69,20 +64,17 @@ with-control-requires c κs = search needs
 store-control-requires : tie.Need-store-control-requires
 store-control-requires c κs = search needs
 
-same-length-3 : tie.Need-same-length-3
-same-length-3 c = search needs
-
 returns-5 : tie.Need-returns-5
 returns-5 c access =
-    let d = c .before .before .before .before .before in
+    let d = c .before .before .before in
     let l = at-N7 (d .before .before .before .before .before) in
     carries-control refl refl l
     (admitted (l .reached) (d .before .before .before .before .is-controller .ensures) (d .before .before .before .if3 .left)
     (by-class (l .reached) controlGood (d .before .before .class-at .ensures) (d .before .control-good .ensures))
     (d .if4 .left))
-    (c .before .before .before .before .with-control .ensures)
+    (c .before .before .with-control .ensures)
     (λ r. refl)
-    (c .before .before .store-control .ensures)
+    (c .store-control .ensures)
 
 pub set-control-spec : {M : Type 1} → statement M
 set-control-spec =
@@ -93,13 +85,10 @@ set-control-spec =
     returns-2
     load-requires
     is-controller-requires
-    same-length
     returns-3
     class-at-requires
     control-good-requires
-    same-length-2
     returns-4
     with-control-requires
     store-control-requires
-    same-length-3
     returns-5)

@@ -90,82 +90,67 @@ enum-told-9 c = search needs
 unwaited-requires-8 : tie.Need-unwaited-requires-8
 unwaited-requires-8 c κs = search needs
 
-same-length : tie.Need-same-length
-same-length c = search needs
-
 returns : tie.Need-returns
 returns c =
-    let a = c .before .before .before .before .before .before .before .before .before .before .before .before .before .args in
-    let is = told-kind (now (a .message)) (c .before .before .before .before .before .before .before .kind-of .ensures) (c .before .before .before .before .before .before .before .before .u16-at .ensures) (c .before .before .before .before .before .enum-told .given .1) in
-    subst⁻¹ (DecidesKind (now (a .access)) (now (a .records)) _ _) (c .unwaited .ensures)
-    (carried (now (a .access)) (now (a .records)) (a .channel) (now (a .message)) (now (a .status)) Request _ _ is refl refl refl (c .before .before .before .request .ensures))
-
-same-length-2 : tie.Need-same-length-2
-same-length-2 c = search needs
+    let a = c .before .before .before .before .before .before .before .before .before .before .args in
+    let is = told-kind (now (a .message)) (c .before .before .before .before .before .kind-of .ensures) (c .before .before .before .before .before .before .u16-at .ensures) (c .before .before .before .enum-told .given .1) in
+    subst⁻¹ (DecidesKind _ (now (a .access)) (now (a .records)) _ _) (c .unwaited .ensures)
+    (carried _ (now (a .access)) (now (a .records)) (a .channel) (now (a .message)) (now (a .status)) Request _ _ is refl refl refl (c .before .request .ensures))
 
 returns-2 : tie.Need-returns-2
 returns-2 c =
-    let a = c .before .before .before .before .before .before .before .before .before .before .before .before .before .args in
-    let is = told-kind (now (a .message)) (c .before .before .before .before .before .before .before .kind-of .ensures) (c .before .before .before .before .before .before .before .before .u16-at .ensures) (c .before .before .before .before .before .enum-told2 .given .1) in
-    subst⁻¹ (DecidesKind (now (a .access)) (now (a .records)) _ _) (c .unwaited2 .ensures)
-    (carried (now (a .access)) (now (a .records)) (a .channel) (now (a .message)) (now (a .status)) Release _ _ is refl refl refl (c .before .before .before .release .ensures (now (a .access))))
-
-same-length-3 : tie.Need-same-length-3
-same-length-3 c = search needs
+    let a = c .before .before .before .before .before .before .before .before .before .before .args in
+    let is = told-kind (now (a .message)) (c .before .before .before .before .before .kind-of .ensures) (c .before .before .before .before .before .before .u16-at .ensures) (c .before .before .before .enum-told2 .given .1) in
+    subst⁻¹ (DecidesKind _ (now (a .access)) (now (a .records)) _ _) (c .unwaited2 .ensures)
+    (carried _ (now (a .access)) (now (a .records)) (a .channel) (now (a .message)) (now (a .status)) Release _ _ is refl refl refl (c .before .release .ensures (now (a .access))))
 
 returns-3 : tie.Need-returns-3
 returns-3 c =
-    let a = c .before .before .before .before .before .before .before .before .before .before .before .before .before .args in
-    let is = told-kind (now (a .message)) (c .before .before .before .before .before .before .before .kind-of .ensures) (c .before .before .before .before .before .before .before .before .u16-at .ensures) (c .before .before .before .before .before .enum-told3 .given .1) in
-    subst⁻¹ (DecidesKind (now (a .access)) (now (a .records)) _ _) (c .unwaited3 .ensures)
-    (carried (now (a .access)) (now (a .records)) (a .channel) (now (a .message)) (now (a .status)) Handover _ _ is refl refl refl (c .before .before .before .handover .ensures))
-
-same-length-4 : tie.Need-same-length-4
-same-length-4 c = search needs
+    let a = c .before .before .before .before .before .before .before .before .before .before .args in
+    let is = told-kind (now (a .message)) (c .before .before .before .before .before .kind-of .ensures) (c .before .before .before .before .before .before .u16-at .ensures) (c .before .before .before .enum-told3 .given .1) in
+    subst⁻¹ (DecidesKind _ (now (a .access)) (now (a .records)) _ _) (c .unwaited3 .ensures)
+    (carried _ (now (a .access)) (now (a .records)) (a .channel) (now (a .message)) (now (a .status)) Handover _ _ is refl refl refl (c .before .handover .ensures))
 
 returns-4 : tie.Need-returns-4
 returns-4 c =
-    let a = c .before .before .before .before .before .before .before .before .before .before .before .before .before .args in
-    let is = told-kind (now (a .message)) (c .before .before .before .before .before .before .before .kind-of .ensures) (c .before .before .before .before .before .before .before .before .u16-at .ensures) (c .before .before .before .before .before .enum-told4 .given .1) in
-    subst⁻¹ (DecidesKind (now (a .access)) (now (a .records)) _ _) (c .unwaited4 .ensures)
-    (carried (now (a .access)) (now (a .records)) (a .channel) (now (a .message)) (now (a .status)) SetConfig _ _ is refl refl refl (c .before .before .before .set-config .ensures (now (a .access))))
-
-same-length-5 : tie.Need-same-length-5
-same-length-5 c = search needs
+    let a = c .before .before .before .before .before .before .before .before .before .before .args in
+    let is = told-kind (now (a .message)) (c .before .before .before .before .before .kind-of .ensures) (c .before .before .before .before .before .before .u16-at .ensures) (c .before .before .before .enum-told4 .given .1) in
+    subst⁻¹ (DecidesKind _ (now (a .access)) (now (a .records)) _ _) (c .unwaited4 .ensures)
+    (carried _ (now (a .access)) (now (a .records)) (a .channel) (now (a .message)) (now (a .status)) SetConfig _ _ is refl refl refl (c .before .set-config .ensures (now (a .access))))
 
 returns-5 : tie.Need-returns-5
 returns-5 c =
-    let a = c .before .before .before .before .before .before .before .before .before .before .before .before .before .args in
-    let is = told-kind (now (a .message)) (c .before .before .before .before .before .before .before .kind-of .ensures) (c .before .before .before .before .before .before .before .before .u16-at .ensures) (c .before .before .before .before .before .enum-told5 .given .1) in
-    subst⁻¹ (DecidesKind (now (a .access)) (now (a .records)) _ _) (c .unwaited5 .ensures)
-    (carried (now (a .access)) (now (a .records)) (a .channel) (now (a .message)) (now (a .status)) SetControl _ _ is refl refl refl (c .before .before .before .set-control .ensures (now (a .access))))
+    let a = c .before .before .before .before .before .before .before .before .before .before .args in
+    let is = told-kind (now (a .message)) (c .before .before .before .before .before .kind-of .ensures) (c .before .before .before .before .before .before .u16-at .ensures) (c .before .before .before .enum-told5 .given .1) in
+    subst⁻¹ (DecidesKind _ (now (a .access)) (now (a .records)) _ _) (c .unwaited5 .ensures)
+    (carried _ (now (a .access)) (now (a .records)) (a .channel) (now (a .message)) (now (a .status)) SetControl _ _ is refl refl refl (c .before .set-control .ensures (now (a .access))))
 
 returns-6 : tie.Need-returns-6
 returns-6 c =
-    let a = c .before .before .before .before .before .before .before .before .before .before .args in
+    let a = c .before .before .before .before .before .before .before .before .before .args in
     let is = told-kind (now (a .message)) (c .before .before .before .before .kind-of .ensures) (c .before .before .before .before .before .u16-at .ensures) (c .before .before .enum-told6 .given .1) in
-    subst⁻¹ (DecidesKind (now (a .access)) (now (a .records)) _ _) (c .unwaited6 .ensures)
-    (booted (now (a .access)) (now (a .records)) (a .channel) (now (a .message)) (now (a .status)) _ is (c .before .authenticated-boot .ensures))
+    subst⁻¹ (DecidesKind _ (now (a .access)) (now (a .records)) _ _) (c .unwaited6 .ensures)
+    (booted _ (now (a .access)) (now (a .records)) (a .channel) (now (a .message)) (now (a .status)) _ is (c .before .authenticated-boot .ensures))
 
 returns-7 : tie.Need-returns-7
 returns-7 c =
-    let a = c .before .before .before .before .before .before .before .before .before .before .args in
+    let a = c .before .before .before .before .before .before .before .before .before .args in
     let is = told-kind (now (a .message)) (c .before .before .before .before .kind-of .ensures) (c .before .before .before .before .before .u16-at .ensures) (c .before .before .enum-told7 .given .1) in
-    subst⁻¹ (DecidesKind (now (a .access)) (now (a .records)) _ _) (c .unwaited7 .ensures)
-    (status-read (now (a .access)) (now (a .records)) (a .channel) (now (a .message)) (now (a .status)) _ is (c .before .get-status .ensures))
+    subst⁻¹ (DecidesKind _ (now (a .access)) (now (a .records)) _ _) (c .unwaited7 .ensures)
+    (status-read _ (now (a .access)) (now (a .records)) (a .channel) (now (a .message)) (now (a .status)) _ is (c .before .get-status .ensures))
 
 returns-8 : tie.Need-returns-8
 returns-8 c =
-    let a = c .before .before .before .before .before .before .before .before .before .args in
+    let a = c .before .before .before .before .before .before .before .before .args in
     let is = told-kind (now (a .message)) (c .before .before .before .kind-of .ensures) (c .before .before .before .before .u16-at .ensures) (c .before .enum-told8 .given .1) in
-    status-awaited (now (a .access)) (now (a .records)) (a .channel) (now (a .message)) (now (a .status)) _ is (c .wait-status .ensures)
+    status-awaited _ (now (a .access)) (now (a .records)) (a .channel) (now (a .message)) (now (a .status)) _ is (c .wait-status .ensures)
 
 returns-9 : tie.Need-returns-9
 returns-9 c =
-    let a = c .before .before .before .before .before .before .before .before .before .args in
+    let a = c .before .before .before .before .before .before .before .before .args in
     let is = told-kind (now (a .message)) (c .before .before .before .kind-of .ensures) (c .before .before .before .before .u16-at .ensures) (c .before .enum-told9 .given .1) in
-    subst⁻¹ (DecidesKind (now (a .access)) (now (a .records)) _ _) (c .unwaited8 .ensures)
-    (unknown (now (a .access)) (now (a .records)) (a .channel) (now (a .message)) (now (a .status)) is)
+    subst⁻¹ (DecidesKind _ (now (a .access)) (now (a .records)) _ _) (c .unwaited8 .ensures)
+    (unknown _ (now (a .access)) (now (a .records)) (a .channel) (now (a .message)) (now (a .status)) is)
 
 pub by-kind-spec : {M : Type 1} → statement M
 by-kind-spec =
@@ -198,15 +183,10 @@ by-kind-spec =
     wait-status-requires
     enum-told-9
     unwaited-requires-8
-    same-length
     returns
-    same-length-2
     returns-2
-    same-length-3
     returns-3
-    same-length-4
     returns-4
-    same-length-5
     returns-5
     returns-6
     returns-7

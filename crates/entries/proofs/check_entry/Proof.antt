@@ -14,13 +14,13 @@ row-of-requires c κs = search needs
 
 returns : tie.Need-returns
 unfolding faultOf firstOf
-returns c = rw (off-board (c .before .row-of .ensures) (c .before .before .byte-at .ensures) (c .if1 .taken))
+returns c = rw (off-board _ (c .before .row-of .ensures) (c .before .before .byte-at .ensures) (c .if1 .taken))
 
 returns-2 : tie.Need-returns-2
 unfolding faultOf firstOf
 returns-2 c =
     rw (
-      on-board (c .before .before .row-of .ensures) (c .before .before .before .byte-at .ensures) (c .before .if1 .left),
+      on-board _ (c .before .before .row-of .ensures) (c .before .before .before .byte-at .ensures) (c .before .if1 .left),
       c .if2 .taken,
     )
 
@@ -35,9 +35,9 @@ unfolding faultOf firstOf
 returns-3 c =
     let named = c .before .before .before .before in
     rw (
-      on-board (named .before .row-of .ensures) (named .before .before .byte-at .ensures) (named .if1 .left),
+      on-board _ (named .before .row-of .ensures) (named .before .before .byte-at .ensures) (named .if1 .left),
       c .before .before .before .if2 .left,
-      master-test (c .before .is-active .ensures) (c .before .before .u16-at .ensures) (c .if3 .taken),
+      master-test _ (c .before .is-active .ensures) (c .before .before .u16-at .ensures) (c .if3 .taken),
     )
 
 returns-4 : tie.Need-returns-4
@@ -45,9 +45,9 @@ unfolding faultOf firstOf
 returns-4 c =
     let named = c .before .before .before .before in
     rw (
-      on-board (named .before .row-of .ensures) (named .before .before .byte-at .ensures) (named .if1 .left),
+      on-board _ (named .before .row-of .ensures) (named .before .before .byte-at .ensures) (named .if1 .left),
       c .before .before .before .if2 .left,
-      master-test (c .before .is-active .ensures) (c .before .before .u16-at .ensures) (c .if3 .left),
+      master-test _ (c .before .is-active .ensures) (c .before .before .u16-at .ensures) (c .if3 .left),
     )
 
 pub check-entry-spec : {M : Type 1} → statement M

@@ -4,11 +4,11 @@ use mathlib.Core.Path.{_≡_, refl, ap, _∙_}
 use mathlib.Core.List.{[]}
 use denote.Ref.{now}
 use Rattle.rules.specs.declared.Kind.the-variants.{Handover}
-use Rattle.rules.specs.Board.{ours}
 use Rattle.rules.specs.AccessList.{permitted}
 use Rattle.rules.specs.Message.{Query, newHostOf}
 use Rattle.rules.specs.Effect.{heldBy}
 use Rattle.access.specs.Memory.{entryAt}
+use Rattle.board.specs.Memory.{boardIn}
 use Rattle.operations.specs.Operation.{asked}
 use Rattle.operations.proofs.Rows.{Loaded, loaded-at, too-short, off-board, lacks-right, wrong-operands, admitted, refuses, carries-own}
 use borrow.Author.Needs.{needs}
@@ -22,18 +22,18 @@ abbrev asks : tie.After-load → Query
 asks c = asked (start c .args .channel) (now (start c .args .message)) []
 
 at-N7 : (c : tie.After-load)
-    → Loaded Handover (asks c) (now (start c .args .records)) (c .before .before .before .row-in .result) (c .load .result)
+    → Loaded (boardIn (now (start c .args .board))) Handover (asks c) (now (start c .args .records)) (c .before .before .before .before .row-in .result) (c .load .result)
 at-N7 c =
-    loaded-at (c .before .before .before .before .if1 .left) refl (c .before .before .before .row-in .ensures)
-    (c .before .before .if2 .left)
+    loaded-at (c .before .before .before .before .before .if1 .left) refl (c .before .before .before .before .row-in .ensures)
+    (c .before .before .before .if2 .left)
     (c .load .ensures)
 
 -- the host that is asked about is the new host
 new-host : (c : tie.After-is-permitted)
     → let l = c .before .before .before .before in
     c .is-permitted .result
-    ≡ permitted ours (entryAt (now (start l .args .access)) (l .before .before .before .row-in .result)) (newHostOf (asks l .message))
-new-host c = c .is-permitted .ensures ∙ ap (permitted ours _) (c .before .byte-at .ensures)
+    ≡ permitted (boardIn (now (start l .args .board))) (entryAt (now (start l .args .access)) (l .before .before .before .before .row-in .result)) (newHostOf (asks l .message))
+new-host c = c .is-permitted .ensures ∙ ap (permitted _ _) (c .before .byte-at .ensures)
 
 returns : tie.Need-returns
 returns c = refuses (too-short (c .if1 .taken))
@@ -50,9 +50,6 @@ load-requires c κs = search needs
 is-controller-requires : tie.Need-is-controller-requires
 is-controller-requires c κs = search needs
 
-same-length : tie.Need-same-length
-same-length c = search needs
-
 returns-3 : tie.Need-returns-3
 returns-3 c =
     refuses (lacks-right (at-N7 (c .before .before) .reached) (c .before .is-controller .ensures) (c .if3 .taken))
@@ -65,9 +62,6 @@ cast-is-permitted c = search needs
 
 is-permitted-requires : tie.Need-is-permitted-requires
 is-permitted-requires c κs = search needs
-
-same-length-2 : tie.Need-same-length-2
-same-length-2 c = search needs
 
 returns-4 : tie.Need-returns-4
 returns-4 c =
@@ -83,21 +77,18 @@ held-by-requires c κs = search needs
 store-own-requires : tie.Need-store-own-requires
 store-own-requires c κs = search needs
 
-same-length-3 : tie.Need-same-length-3
-same-length-3 c = search needs
-
 returns-5 : tie.Need-returns-5
 returns-5 c =
-    let d = c .before .before .before .before .before in
+    let d = c .before .before .before in
     let l = at-N7 (d .before .before .before .before .before) in
     let host = d .before .before .byte-at .ensures in
     carries-own refl refl l
     (admitted (l .reached) (d .before .before .before .before .is-controller .ensures) (d .before .before .before .if3 .left)
     (new-host (d .before))
     (d .if4 .left))
-    (c .before .before .before .held-by .ensures ∙ ap (λ (h : ℕ). heldBy h (d .before .before .before .before .before .load .result)) host)
+    (c .before .held-by .ensures ∙ ap (λ (h : ℕ). heldBy h (d .before .before .before .before .before .load .result)) host)
     (λ r. refl)
-    (c .before .before .store-own .ensures)
+    (c .store-own .ensures)
 
 pub handover-spec : {M : Type 1} → statement M
 handover-spec =
@@ -108,14 +99,11 @@ handover-spec =
     returns-2
     load-requires
     is-controller-requires
-    same-length
     returns-3
     byte-at-requires
     cast-is-permitted
     is-permitted-requires
-    same-length-2
     returns-4
     held-by-requires
     store-own-requires
-    same-length-3
     returns-5)

@@ -8,26 +8,27 @@ use borrow.Author.Needs.{needs}
 use borrow.Author.Tests.{eq-eqb, ne-eqb}
 use Rattle.rules.specs.Table.{firstOf}
 use Rattle.rules.specs.Bytes.{u16At}
-use Rattle.rules.specs.Board.{ours}
+use Rattle.board.specs.Memory.{boardIn}
 use Rattle.rules.proofs.Tests.{cond-true, cond-false}
 use Rattle.rules.specs.AccessList.{partsFrom, entriesTable, listTable, verdictOf}
 use Rattle.entries.specs.Entries.{partsBefore}
+use Rattle.rules.proofs.Verdicts.{no-fault}
 use Rattle.lists.specs.Judged.{badFrom, verdictFrom}
-use Rattle.lists.proofs.Verdicts.{part-is, no-fault, secondary-bad, secondary-good, secondaries-good, turn-unused, turn-bad, turn-good}
+use Rattle.lists.proofs.Verdicts.{part-is, secondary-bad, secondary-good, secondaries-good, turn-unused, turn-bad, turn-good}
 use Rattle.lists.proofs.judge.Statement.{statement}
 use Rattle.lists.proofs.judge.Tie as tie
 
 abbrev Inv-loop : tie.InvT-loop
-Inv-loop listed list e part processor k₀ k = (k ≤ 3) × (badFrom part 0 ≡ badFrom part k)
+Inv-loop board listed list e part processor k₀ k = (k ≤ 3) × (badFrom (boardIn board) part 0 ≡ badFrom (boardIn board) part k)
 
 abbrev μ-loop : tie.MeasureT-loop
-μ-loop listed list e part processor k₀ k = 3 - k
+μ-loop board listed list e part processor k₀ k = 3 - k
 
 abbrev Inv-entries : tie.InvT-entries
-Inv-entries listed list e₀ e = (e ≤ 32) × (verdictOf ours listed list ≡ verdictFrom list e)
+Inv-entries board listed list e₀ e = (e ≤ 32) × (verdictOf (boardIn board) listed list ≡ verdictFrom (boardIn board) list e)
 
 abbrev μ-entries : tie.MeasureT-entries
-μ-entries listed list e₀ e = 32 - e
+μ-entries board listed list e₀ e = 32 - e
 
 returns : tie.Need-returns Inv-loop μ-loop Inv-entries μ-entries
 unfolding verdictOf listTable firstOf
@@ -115,7 +116,7 @@ entries-again c =
     let e = turn .entries .e in (
       omega arith,
       turn .entries .inv .1
-          ∙ turn-unused list e (omega arith) (part-is list e) (c .before .byte-at .ensures) (c .if6 .taken),
+          ∙ turn-unused _ list e (omega arith) (part-is list e) (c .before .byte-at .ensures) (c .if6 .taken),
     )
 
 cast-named-before : tie.Need-cast-named-before Inv-loop μ-loop Inv-entries μ-entries
@@ -156,7 +157,7 @@ loop-again c =
     let k = c .before .before .before .before .loop .k in (
       omega arith,
       c .before .before .before .before .loop .inv .1
-          ∙ secondary-good _ k (omega arith) (c .before .is-host .ensures) (c .before .before .u16-at3 .ensures) (c .if7 .left),
+          ∙ secondary-good _ _ k (omega arith) (c .before .is-host .ensures) (c .before .before .u16-at3 .ensures) (c .if7 .left),
     )
 
 add-e-2 : tie.Need-add-e-2 Inv-loop μ-loop Inv-entries μ-entries
@@ -174,10 +175,10 @@ entries-again-2 c =
     let all : c .before .loop .k ≡ 3 = omega arith in (
       omega arith,
       turn .entries .inv .1
-          ∙ turn-good list e (omega arith) (part-is list e) (judged .before .before .before .byte-at .ensures)
+          ∙ turn-good _ list e (omega arith) (part-is list e) (judged .before .before .before .byte-at .ensures)
           (judged .before .before .if6 .left) (judged .before .named-before .ensures) (judged .check-entry .ensures)
           (c .before .before .enum-told .given .1)
-          ∙ cond-false _ _ (c .before .loop .inv .1 ∙ secondaries-good _ (c .before .loop .k) all),
+          ∙ cond-false _ _ (c .before .loop .inv .1 ∙ secondaries-good _ _ (c .before .loop .k) all),
     )
 
 returns-5 : tie.Need-returns-5 Inv-loop μ-loop Inv-entries μ-entries
@@ -192,7 +193,7 @@ returns-6 c =
     let e = turn .entries .e in
     sym
     (turn .entries .inv .1
-    ∙ turn-bad list e (omega arith) (part-is list e) (judged .before .before .before .byte-at .ensures)
+    ∙ turn-bad _ list e (omega arith) (part-is list e) (judged .before .before .before .byte-at .ensures)
     (judged .before .before .if6 .left) (judged .before .named-before .ensures) (judged .check-entry .ensures)
     (λ good. no-fault (rw good at (c .match .keys2))))
 
@@ -205,12 +206,12 @@ returns-7 c =
     let k = c .before .before .before .before .loop .k in
     sym
     (turn .entries .inv .1
-    ∙ turn-good list e (omega arith) (part-is list e) (judged .before .before .before .byte-at .ensures)
+    ∙ turn-good _ list e (omega arith) (part-is list e) (judged .before .before .before .byte-at .ensures)
     (judged .before .before .if6 .left) (judged .before .named-before .ensures) (judged .check-entry .ensures)
     (c .before .before .before .before .before .enum-told .given .1)
     ∙ cond-true _ _
     (c .before .before .before .before .loop .inv .1
-    ∙ secondary-bad _ k (omega arith) (c .before .is-host .ensures) (c .before .before .u16-at3 .ensures) (c .if7 .taken)))
+    ∙ secondary-bad _ _ k (omega arith) (c .before .is-host .ensures) (c .before .before .u16-at3 .ensures) (c .if7 .taken)))
 
 pub judge-spec : {M : Type 1} → statement M
 judge-spec =

@@ -6,6 +6,7 @@ use mathlib.Core.List.{_∷_}
 use native.Mathlib.Omega.{arith}
 use borrow.Author.Needs.{needs}
 use lib.ListN.{length, length-set}
+use Rattle.board.specs.Memory.{boardIn}
 use Rattle.loading.specs.Loaded.{wordsOf, entriesBefore}
 use Rattle.loading.proofs.Words.{load-first, put-next, entries-all}
 use Rattle.lists.proofs.Verdicts.{part-is}
@@ -13,11 +14,11 @@ use Rattle.loading.proofs.load.Statement.{statement}
 use Rattle.loading.proofs.load.Tie as tie
 
 abbrev Inv-loop : tie.InvT-loop
-Inv-loop memory₀ list e₀ memory e =
-    (e ≤ 32) × (memory ≡ 1 ∷ wordsOf (entriesBefore list e)) × (length memory ≡ 17)
+Inv-loop board memory₀ list e₀ memory e =
+    (e ≤ 32) × (memory ≡ 1 ∷ wordsOf (entriesBefore (boardIn board) list e)) × (length memory ≡ 129)
 
 abbrev μ-loop : tie.MeasureT-loop
-μ-loop memory₀ list e₀ memory e = 32 - e
+μ-loop board memory₀ list e₀ memory e = 32 - e
 
 clear-requires : tie.Need-clear-requires Inv-loop μ-loop
 clear-requires c κs = search needs
@@ -29,7 +30,7 @@ loop-holds : tie.Need-loop-holds Inv-loop μ-loop
 loop-holds c =
     let start = c .before .before .before .before .before .before in (
       omega arith,
-      load-first (start .args .list .now) (c .before .before .clear .ensures) (start .pre .0),
+      load-first _ (start .args .list .now) (c .before .before .clear .ensures) (start .pre .0),
       simp length-set (omega arith),
     )
 
@@ -72,7 +73,7 @@ loop-again c =
     let list = turn .before .before .before .before .before .before .before .args .list .now in
     let e = turn .loop .e in (
       omega arith,
-      c .before .before .store-entry .ensures ∙ rw (part-is list e, turn .loop .inv .1) (put-next list e),
+      c .before .before .store-entry .ensures ∙ rw (part-is list e, turn .loop .inv .1) (put-next _ list e),
       omega arith,
     )
 
@@ -83,7 +84,7 @@ returns : tie.Need-returns Inv-loop μ-loop
 returns c =
     let list = c .before .before .before .before .before .before .before .before .args .list .now in
     let all : c .before .loop .e ≡ 32 = omega arith in
-    c .before .loop .inv .1 ∙ rw (all, entries-all list)
+    c .before .loop .inv .1 ∙ rw (all, entries-all _ list)
 
 pub load-spec : {M : Type 1} → statement M
 load-spec =

@@ -1,12 +1,9 @@
--- `loading::store_entry` meets its contract: four stores are the entry's words at its row. Assumes nothing.
-use mathlib.Core.Path.{sym, ap, _∙_}
+-- `loading::store_entry` meets its contract: an unused entry and one off the board are stored nowhere, and four stores are the words of any other
+-- at its row. Assumes nothing.
 use native.Mathlib.Omega.{arith}
 use lib.ListN.{length-set}
-use Rattle.rules.specs.Board.{ours, rowOf}
-use Rattle.rules.proofs.Tests.{cond-true, cond-false}
-use Rattle.loading.specs.Loaded.{putEntry}
-use Rattle.loading.proofs.Words.{four-stores}
-use Rattle.entries.proofs.Faults.{off-board, on-board}
+use denote.Ref.{now}
+use Rattle.loading.proofs.Words.{put-unused, put-off, put-on}
 use borrow.Author.Needs.{needs}
 use Rattle.loading.proofs.store_entry.Statement.{statement}
 use Rattle.loading.proofs.store_entry.Tie as tie
@@ -14,13 +11,19 @@ use Rattle.loading.proofs.store_entry.Tie as tie
 byte-at-requires : tie.Need-byte-at-requires
 byte-at-requires c κs = search needs
 
+returns : tie.Need-returns
+returns c =
+    let a = c .before .before .before .before .args in
+    put-unused _ (now (a .part)) (now (a .memory)) (c .before .byte-at .ensures) (c .if1 .taken)
+
 row-of-requires : tie.Need-row-of-requires
 row-of-requires c κs = search needs
 
-returns : tie.Need-returns
-unfolding putEntry
-returns c =
-    sym (cond-false _ _ (off-board (c .before .row-of .ensures) (c .before .before .byte-at .ensures) (c .if1 .taken)))
+returns-2 : tie.Need-returns-2
+returns-2 c =
+    let a = c .before .before .before .before .before .before .args in
+    put-off _ (now (a .part)) (now (a .memory)) (c .before .before .before .byte-at .ensures) (c .before .before .if1 .left) (c .before .row-of .ensures)
+    (c .if2 .taken)
 
 cast-at : tie.Need-cast-at
 cast-at c = search needs
@@ -79,23 +82,22 @@ slice-write-memory-4 c = simp length-set (omega arith)
 same-length : tie.Need-same-length
 same-length c = search needs
 
-returns-2 : tie.Need-returns-2
-unfolding putEntry
-returns-2 c =
-    let m = c .before .before .before .before .before .before .before .before .before .args .memory .now in
-    let row = c .before .before .before .before .before .row-of .ensures in
-    let processor = c .before .before .before .before .before .before .byte-at .ensures in
-    four-stores m (row ∙ ap (rowOf ours) processor) (c .before .before .before .u16-at .ensures) (c .before .before .u16-at2 .ensures)
-    (c .before .u16-at3 .ensures) (c .u16-at4 .ensures)
-    ∙ sym (cond-true _ _ (on-board row processor (c .before .before .before .before .if1 .left)))
+returns-3 : tie.Need-returns-3
+returns-3 c =
+    let a = c .before .before .before .before .before .before .before .before .before .before .args in
+    let found = c .before .before .before .before in
+    put-on _ (now (a .part)) (now (a .memory)) (found .before .before .before .byte-at .ensures) (found .before .before .if1 .left) (found .before .row-of .ensures)
+    (found .if2 .left)
+    (c .before .before .before .u16-at .ensures) (c .before .before .u16-at2 .ensures) (c .before .u16-at3 .ensures) (c .u16-at4 .ensures)
 
 pub store-entry-spec : {M : Type 1} → statement M
 store-entry-spec =
     tie.close
     (tie.spec
     byte-at-requires
-    row-of-requires
     returns
+    row-of-requires
+    returns-2
     cast-at
     mul-at
     add-at
@@ -115,4 +117,4 @@ store-entry-spec =
     mul-memory-4
     slice-write-memory-4
     same-length
-    returns-2)
+    returns-3)

@@ -1,6 +1,6 @@
 -- `operations::row_in` meets its contract. Assumes nothing.
 use mathlib.Core.Path.{ap, _∙_}
-use Rattle.rules.specs.Board.{ours, rowOf}
+use Rattle.rules.specs.Board.{rowOf}
 use borrow.Author.Needs.{needs}
 use Rattle.operations.proofs.row_in.Statement.{statement}
 use Rattle.operations.proofs.row_in.Tie as tie
@@ -12,7 +12,7 @@ row-of-requires : tie.Need-row-of-requires
 row-of-requires c κs = search needs
 
 returns : tie.Need-returns
-returns c = c .row-of .ensures ∙ ap (rowOf ours) (c .before .byte-at .ensures)
+returns c = c .row-of .ensures ∙ ap (rowOf _) (c .before .byte-at .ensures)
 
 pub row-in-spec : {M : Type 1} → statement M
 row-in-spec = tie.close (tie.spec byte-at-requires row-of-requires returns)

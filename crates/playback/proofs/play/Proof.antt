@@ -37,11 +37,11 @@ nothing-left input out at used long first here none =
     subst (NoneAt input) here (none (le-leb 96 (length out - used) (omega (arith, empty))))
 
 abbrev Inv-loop : tie.InvT-loop
-Inv-loop access₀ records₀ words₀ count input output₀ at₀ used₀ stand₀ access records words output at used stand =
-    (at ≤ length input) × (length output ≡ length output₀) × (96 ≤ length output) × (at ≡ 0 → used ≡ 0) × Reached input (memories access₀ records₀ words₀ count) at (memories access records words stand)
+Inv-loop board₀ access₀ records₀ words₀ count input output₀ at₀ used₀ stand₀ board access records words output at used stand =
+    (at ≤ length input) × (length output ≡ length output₀) × (96 ≤ length output) × (at ≡ 0 → used ≡ 0) × Reached input (memories board₀ access₀ records₀ words₀ count) at (memories board access records words stand)
 
 abbrev μ-loop : tie.MeasureT-loop
-μ-loop access₀ records₀ words₀ count input output₀ at₀ used₀ stand₀ access records words output at used stand =
+μ-loop board₀ access₀ records₀ words₀ count input output₀ at₀ used₀ stand₀ board access records words output at used stand =
     length input - at
 
 loop-holds : tie.Need-loop-holds Inv-loop μ-loop
@@ -61,7 +61,7 @@ returns c =
     let l = c .before .before .before .before .before .loop in
     let input = now (c .before .before .before .before .before .before .before .before .args .input) in
     let told = comes-end _ _ _ _ _ _ _ (c .before .next .given .1) (c .before .before .before .next-field .ensures) in
-    (omega (arith, told .place), (reached-same _ _ _ _ _ _ _ (l .inv .4) _ _ (told .place) (told .stand), (λ none. nothing-left input (l .output) (l .at) (l .used) (l .inv .2) (l .inv .3) (sym (told .place) ∙ none) (told .none), λ on. ap (λ (k : ℕ). waits (foundAt input k)) (told .place) ∙ told .more on)))
+    (omega (arith, told .place), (reached-same _ _ _ _ _ _ _ _ (l .inv .4) _ _ (told .place) (told .stand), (λ none. nothing-left input (l .output) (l .at) (l .used) (l .inv .2) (l .inv .3) (sym (told .place) ∙ none) (told .none), λ on. ap (λ (k : ℕ). waits (foundAt input k)) (told .place) ∙ told .more on)))
 
 enum-known-next-2 : tie.Need-enum-known-next-2 Inv-loop μ-loop
 enum-known-next-2 c = search needs
@@ -74,32 +74,32 @@ add-start c =
 
 sub-play-field : tie.Need-sub-play-field Inv-loop μ-loop
 sub-play-field c =
-    let l = c .before .before .before .before .before .before .before .before .loop in
-    let comes = comes-field _ _ _ _ _ _ _ _ _ (c .before .before .before .before .next2 .given .1) (c .before .before .before .before .before .before .next-field .ensures) in
+    let l = c .before .before .before .before .before .before .before .before .before .loop in
+    let comes = comes-field _ _ _ _ _ _ _ _ _ (c .before .before .before .before .before .next2 .given .1) (c .before .before .before .before .before .before .before .next-field .ensures) in
     omega (arith, comes .behind)
 
 part-play-field-start : tie.Need-part-play-field-start Inv-loop μ-loop
 part-play-field-start c =
-    let l = c .before .before .before .before .before .before .before .before .loop in
-    let comes = comes-field _ _ _ _ _ _ _ _ _ (c .before .before .before .before .next2 .given .1) (c .before .before .before .before .before .before .next-field .ensures) in
+    let l = c .before .before .before .before .before .before .before .before .before .loop in
+    let comes = comes-field _ _ _ _ _ _ _ _ _ (c .before .before .before .before .before .next2 .given .1) (c .before .before .before .before .before .before .before .next-field .ensures) in
     omega (arith, comes .behind)
 
 part-play-field-end : tie.Need-part-play-field-end Inv-loop μ-loop
 part-play-field-end c =
-    let l = c .before .before .before .before .before .before .before .before .loop in
-    let comes = comes-field _ _ _ _ _ _ _ _ _ (c .before .before .before .before .next2 .given .1) (c .before .before .before .before .before .before .next-field .ensures) in
+    let l = c .before .before .before .before .before .before .before .before .before .loop in
+    let comes = comes-field _ _ _ _ _ _ _ _ _ (c .before .before .before .before .before .next2 .given .1) (c .before .before .before .before .before .before .before .next-field .ensures) in
     omega (arith, comes .within)
 
 sub-play-field-2 : tie.Need-sub-play-field-2 Inv-loop μ-loop
 sub-play-field-2 c =
-    let l = c .before .before .before .before .before .before .before .before .before .loop in
-    let comes = comes-field _ _ _ _ _ _ _ _ _ (c .before .before .before .before .before .next2 .given .1) (c .before .before .before .before .before .before .before .next-field .ensures) in
+    let l = c .before .before .before .before .before .before .before .before .before .before .loop in
+    let comes = comes-field _ _ _ _ _ _ _ _ _ (c .before .before .before .before .before .before .next2 .given .1) (c .before .before .before .before .before .before .before .before .next-field .ensures) in
     omega (arith, comes .fits (l .inv .2))
 
 part-play-field-start-2 : tie.Need-part-play-field-start-2 Inv-loop μ-loop
 part-play-field-start-2 c =
-    let l = c .before .before .before .before .before .before .before .before .before .loop in
-    let comes = comes-field _ _ _ _ _ _ _ _ _ (c .before .before .before .before .before .next2 .given .1) (c .before .before .before .before .before .before .before .next-field .ensures) in
+    let l = c .before .before .before .before .before .before .before .before .before .before .loop in
+    let comes = comes-field _ _ _ _ _ _ _ _ _ (c .before .before .before .before .before .before .next2 .given .1) (c .before .before .before .before .before .before .before .before .next-field .ensures) in
     omega (arith, comes .fits (l .inv .2))
 
 part-play-field-end-2 : tie.Need-part-play-field-end-2 Inv-loop μ-loop
@@ -110,25 +110,25 @@ play-field-requires c κs = search needs
 
 add-used : tie.Need-add-used Inv-loop μ-loop
 add-used c =
-    let l = c .before .before .before .before .before .before .before .before .before .before .before .before .before .before .loop in
-    let comes = comes-field _ _ _ _ _ _ _ _ _ (c .before .before .before .before .before .before .before .before .before .before .next2 .given .1) (c .before .before .before .before .before .before .before .before .before .before .before .before .next-field .ensures) in
-    omega (arith, comes .fits (l .inv .2), c .before .before .before .play-field .ensures .0, l .inv .1, c .before .before .before .before .before .before .before .before .before .before .before .before .before .before .before .before .before .good .1 .1 .1 .1 .1 .0 .0)
+    let l = c .before .before .before .before .before .before .before .before .before .before .before .before .before .before .before .loop in
+    let comes = comes-field _ _ _ _ _ _ _ _ _ (c .before .before .before .before .before .before .before .before .before .before .before .next2 .given .1) (c .before .before .before .before .before .before .before .before .before .before .before .before .before .next-field .ensures) in
+    omega (arith, comes .fits (l .inv .2), c .before .before .before .play-field .ensures .0, l .inv .1, c .before .before .before .before .before .before .before .before .before .before .before .before .before .before .before .before .before .before .good .1 .1 .1 .1 .1 .1 .0 .0)
 
 loop-less : tie.Need-loop-less Inv-loop μ-loop
 loop-less c =
-    let l = c .before .before .before .before .before .before .before .before .before .before .before .before .before .before .loop in
-    let comes = comes-field _ _ _ _ _ _ _ _ _ (c .before .before .before .before .before .before .before .before .before .before .next2 .given .1) (c .before .before .before .before .before .before .before .before .before .before .before .before .next-field .ensures) in
+    let l = c .before .before .before .before .before .before .before .before .before .before .before .before .before .before .before .loop in
+    let comes = comes-field _ _ _ _ _ _ _ _ _ (c .before .before .before .before .before .before .before .before .before .before .before .next2 .given .1) (c .before .before .before .before .before .before .before .before .before .before .before .before .before .next-field .ensures) in
     omega (arith, comes .behind, comes .within)
 
 loop-again : tie.Need-loop-again Inv-loop μ-loop
 loop-again c =
-    let l = c .before .before .before .before .before .before .before .before .before .before .before .before .before .before .loop in
-    let comes = comes-field _ _ _ _ _ _ _ _ _ (c .before .before .before .before .before .before .before .before .before .before .next2 .given .1) (c .before .before .before .before .before .before .before .before .before .before .before .before .next-field .ensures) in
+    let l = c .before .before .before .before .before .before .before .before .before .before .before .before .before .before .before .loop in
+    let comes = comes-field _ _ _ _ _ _ _ _ _ (c .before .before .before .before .before .before .before .before .before .before .before .next2 .given .1) (c .before .before .before .before .before .before .before .before .before .before .before .before .before .next-field .ensures) in
     let played = c .before .before .before .play-field in
-    let place = c .before .before .before .before .before .before .before .before .before .before .next2 .given .0 .1 .1 .0 in
+    let place = c .before .before .before .before .before .before .before .before .before .before .before .next2 .given .0 .1 .1 .0 in
     let room = comes .fits (l .inv .2) in
-    let size = same-len-mid {X = ℕ} place (length (l .output) - place) (l .output) (played .last .1 .1 .1 .1 .1 .1 .0) (played .kept .1 .1 .1 .1 .1 .1 .0) in
-    (comes .within, size ∙ l .inv .1, subst⁻¹ (λ (n : ℕ). 96 ≤ n) size (l .inv .2), λ none. absurd (omega (arith, none, comes .behind)), reached-next _ _ _ _ _ _ _ (l .inv .4) _ _ _ _ _ _ _ _ _ (comes .whole) (comes .behind) (rest-long (l .output) place room) (played .ensures .1))
+    let size = same-len-mid {X = ℕ} place (length (l .output) - place) (l .output) (played .last .1 .1 .1 .1 .1 .1 .1 .0) (played .kept .1 .1 .1 .1 .1 .1 .1 .0) in
+    (comes .within, size ∙ l .inv .1, subst⁻¹ (λ (n : ℕ). 96 ≤ n) size (l .inv .2), λ none. absurd (omega (arith, none, comes .behind)), reached-next _ _ _ _ _ _ _ _ (l .inv .4) _ _ _ _ _ _ _ _ _ _ (comes .whole) (comes .behind) (rest-long (l .output) place room) (played .ensures .1))
 
 pub play-spec : {M : Type 1} → statement M
 play-spec =

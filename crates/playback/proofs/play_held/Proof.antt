@@ -34,8 +34,8 @@ move-down-requires c κs = search needs
 
 returns : tie.Need-returns
 returns c =
-    let a = c .before .before .before .before .before .before .before .before .before .args in
-    let stop = c .before .before .before .before .before .before .before .before .within in
+    let a = c .before .before .before .before .before .before .before .before .before .before .args in
+    let stop = c .before .before .before .before .before .before .before .before .before .within in
     let played = c .before .play in
     let moved = c .move-down .ensures in
     let size : length (now (a .input)) ≡ 65536 = search needs in

@@ -3,7 +3,7 @@ use mathlib.Core.Path.{sym}
 use native.Mathlib.Omega.{arith}
 use lib.Seq.{length-take-le}
 use denote.Ref.{now}
-use Rattle.playing.proofs.ByTag.{list-field, status-field, message-field}
+use Rattle.playing.proofs.ByTag.{list-field, status-field, board-field, message-field}
 use borrow.Author.Needs.{needs}
 use Rattle.playing.proofs.play_field.Statement.{statement}
 use Rattle.playing.proofs.play_field.Tie as tie
@@ -16,36 +16,48 @@ same-length c = search needs
 
 returns : tie.Need-returns
 returns c =
-    let a = c .before .before .before .before .before .before .before .before .args in
+    let a = c .before .before .before .before .before .before .before .before .before .args in
     let played = c .before .before .list-line .ensures in
-    (played .prints .short, list-field (a .tag) (a .count) (now (a .body)) (now (a .access)) (now (a .records)) (now (a .words)) (now (a .line)) _ _ _ (c .before .before .before .before .before .if1 .taken) played)
+    (played .prints .short, list-field (a .tag) (a .count) (now (a .body)) (now (a .board)) (now (a .access)) (now (a .records)) (now (a .words)) (now (a .line)) _ _ _ (c .before .before .before .before .before .before .if1 .taken) played)
 
 take-words-requires : tie.Need-take-words-requires
 take-words-requires c κs = search needs
 
-cast-t17 : tie.Need-cast-t17
-cast-t17 c = search needs
+cast-t19 : tie.Need-cast-t19
+cast-t19 c = search needs
 
 returns-2 : tie.Need-returns-2
 returns-2 c =
     let a = c .before .before .before .before .before .before .args in
     let taken = c .take-words .ensures in
-    (omega arith, status-field (a .tag) (a .count) (now (a .body)) (now (a .access)) (now (a .records)) (now (a .words)) (now (a .line)) _ _ (c .before .before .if2 .taken) (taken .0) (taken .1 .1))
+    (omega arith, status-field (a .tag) (a .count) (now (a .body)) (now (a .board)) (now (a .access)) (now (a .records)) (now (a .words)) (now (a .line)) _ _ (c .before .before .if2 .taken) (taken .0) (taken .1 .1))
 
-slice-aggregate-message-line : tie.Need-slice-aggregate-message-line
-slice-aggregate-message-line c = sym (length-take-le (c .before .before .before .before .before .before .before .before .before .args .count) (now (c .before .before .before .before .before .before .before .before .before .args .words)) (search needs))
-
-message-line-requires : tie.Need-message-line-requires
-message-line-requires c κs = search needs
+board-line-requires : tie.Need-board-line-requires
+board-line-requires c κs = search needs
 
 same-length-2 : tie.Need-same-length-2
 same-length-2 c = search needs
 
 returns-3 : tie.Need-returns-3
 returns-3 c =
-    let a = c .before .before .before .before .before .before .before .before .before .before .before .before .before .args in
+    let a = c .before .before .before .before .before .before .before .before .before .before .before .args in
+    let played = c .before .before .board-line .ensures in
+    (played .prints .short, board-field (a .tag) (a .count) (now (a .body)) (now (a .board)) (now (a .access)) (now (a .records)) (now (a .words)) (now (a .line)) _ _ _ (c .before .before .before .before .before .before .if3 .taken) played)
+
+slice-aggregate-message-line : tie.Need-slice-aggregate-message-line
+slice-aggregate-message-line c = let a = c .before .before .before .before .before .before .before .before .before .before .before .args in sym (length-take-le (a .count) (now (a .words)) (search needs))
+
+message-line-requires : tie.Need-message-line-requires
+message-line-requires c κs = search needs
+
+same-length-3 : tie.Need-same-length-3
+same-length-3 c = search needs
+
+returns-4 : tie.Need-returns-4
+returns-4 c =
+    let a = c .before .before .before .before .before .before .before .before .before .before .before .before .before .before .before .args in
     let played = c .before .before .message-line .ensures in
-    (played .prints .short, message-field (a .tag) (a .count) (now (a .body)) (now (a .access)) (now (a .records)) (now (a .words)) (now (a .line)) _ _ _ (c .before .before .before .before .before .before .before .before .before .before .if1 .left) (c .before .before .before .before .before .before .before .before .before .if2 .left) played)
+    (played .prints .short, message-field (a .tag) (a .count) (now (a .body)) (now (a .board)) (now (a .access)) (now (a .records)) (now (a .words)) (now (a .line)) _ _ _ (c .before .before .before .before .before .before .before .before .before .before .before .before .if1 .left) (c .before .before .before .before .before .before .before .before .before .before .before .if2 .left) (c .before .before .before .before .before .before .before .before .before .before .if3 .left) played)
 
 pub play-field-spec : {M : Type 1} → statement M
 play-field-spec =
@@ -55,9 +67,12 @@ play-field-spec =
     same-length
     returns
     take-words-requires
-    cast-t17
+    cast-t19
     returns-2
+    board-line-requires
+    same-length-2
+    returns-3
     slice-aggregate-message-line
     message-line-requires
-    same-length-2
-    returns-3)
+    same-length-3
+    returns-4)

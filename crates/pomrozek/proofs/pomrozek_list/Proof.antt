@@ -1,6 +1,6 @@
 -- `pomrozek_list` meets its contract: the list call, with the verdict's number. Assumes nothing.
 use mathlib.Core.Path.{ap, _∙_}
-use Rattle.rules.specs.AccessList.{verdictNumber}
+use Rattle.rules.specs.Verdict.{verdictNumber}
 use borrow.Author.Needs.{needs}
 use Rattle.pomrozek.proofs.pomrozek_list.Statement.{statement}
 use Rattle.pomrozek.proofs.pomrozek_list.Tie as tie

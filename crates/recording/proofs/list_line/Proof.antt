@@ -1,12 +1,13 @@
 -- `recording::list_line` meets its contract: the list call, and its line. Assumes nothing.
 use denote.Ref.{now}
-use Rattle.recording.proofs.Messages.{list-refused, list-played}
+use Rattle.texts.specs.Texts.{listWord}
+use Rattle.recording.proofs.Messages.{offer-refused, offer-played}
 use borrow.Author.Needs.{needs}
 use Rattle.recording.proofs.list_line.Statement.{statement}
 use Rattle.recording.proofs.list_line.Tie as tie
 
 returns : tie.Need-returns
-returns c = list-refused _ _ _ (c .if1 .taken)
+returns c = offer-refused _ _ _ _ _ (c .if1 .taken)
 
 offer-list-requires : tie.Need-offer-list-requires
 offer-list-requires c κs = search needs
@@ -19,8 +20,9 @@ same-length c = search needs
 
 returns-2 : tie.Need-returns-2
 returns-2 c =
-    let a = c .before .before .before .before .before .before .before .before .before .args in
-    list-played (now (a .access)) (now (a .body)) (now (a .line)) _ _ (c .before .before .before .offer-list .result) _ (c .before .before .before .before .before .before .if1 .left) (c .before .before .before .offer-list .ensures)
+    let line = now (c .before .before .before .before .before .before .before .before .before .args .line) in
+    let call = c .before .before .before .offer-list in
+    offer-played listWord _ _ _ line _ _ (call .result) _ (c .before .before .before .before .before .before .if1 .left) (call .ensures .verdict) (call .ensures .memory)
     (c .before .before .print-list .ensures)
 
 pub list-line-spec : {M : Type 1} → statement M

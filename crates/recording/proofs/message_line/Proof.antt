@@ -3,13 +3,14 @@ use mathlib.Core.Path.{sym}
 use native.Mathlib.Omega.{arith}
 use lib.Seq.{length-take-le}
 use denote.Ref.{now}
+use Rattle.board.specs.Memory.{boardIn}
 use Rattle.recording.proofs.Messages.{written-few, message-refused, message-played}
 use borrow.Author.Needs.{needs}
 use Rattle.recording.proofs.message_line.Statement.{statement}
 use Rattle.recording.proofs.message_line.Tie as tie
 
 returns : tie.Need-returns
-returns c = message-refused _ _ _ _ _ (c .if1 .taken)
+returns c = message-refused _ _ _ _ _ _ (c .if1 .taken)
 
 byte-at-requires : tie.Need-byte-at-requires
 byte-at-requires c κs = search needs
@@ -25,13 +26,13 @@ message-requires c κs = search needs
 
 array-share-prefix-answer : tie.Need-array-share-prefix-answer
 array-share-prefix-answer c =
-    let few = written-few _ _ _ _ _ (c .before .before .message .result) (c .before .before .message .ensures) in
-    omega (arith, c .before .before .message .kept .1 .1 .1 .1 .1 .0)
+    let few = written-few _ _ _ _ _ _ (c .before .before .message .result) (c .before .before .message .ensures) in
+    omega (arith, c .before .before .message .kept .1 .1 .1 .1 .1 .1 .0)
 
 slice-aggregate-print-message : tie.Need-slice-aggregate-print-message
 slice-aggregate-print-message c =
-    let few = written-few _ _ _ _ _ (c .before .before .before .message .result) (c .before .before .before .message .ensures) in
-    sym (length-take-le (c .before .before .before .message .result .written) _ (omega (arith, c .before .before .before .message .kept .1 .1 .1 .1 .1 .0)))
+    let few = written-few _ _ _ _ _ _ (c .before .before .before .message .result) (c .before .before .before .message .ensures) in
+    sym (length-take-le (c .before .before .before .message .result .written) _ (omega (arith, c .before .before .before .message .kept .1 .1 .1 .1 .1 .1 .0)))
 
 print-message-requires : tie.Need-print-message-requires
 print-message-requires c κs = search needs
@@ -43,7 +44,7 @@ returns-2 : tie.Need-returns-2
 returns-2 c =
     let a = c .before .before .before .before .before .before .before .before .before .before .before .before .before .before .before .args in
     let call = rw (c .before .before .before .before .before .before .before .before .before .before .byte-at .ensures, c .before .before .before .before .before .before .before .before .after-first .ensures) at (c .before .before .before .before .before .before .message .ensures) in
-    message-played (now (a .access)) (now (a .records)) (now (a .body)) (now (a .status)) (now (a .line)) _ _ _
+    message-played (boardIn (now (a .board))) (now (a .access)) (now (a .records)) (now (a .body)) (now (a .status)) (now (a .line)) _ _ _
     (c .before .before .before .before .before .before .message .result) _ (c .before .before .before .before .before .before .before .before .before .before .before .if1 .left) call (c .before .before .print-message .ensures)
 
 pub message-line-spec : {M : Type 1} → statement M

@@ -1,8 +1,6 @@
 -- `records::store_own` meets its contract. Assumes nothing.
 use borrow.Author.Tests.{lt-ltb, le-ltb}
 use Rattle.records.specs.Memory.{withOwn}
-use native.Mathlib.Omega.{arith}
-use lib.ListN.{length-set}
 use borrow.Author.Needs.{needs}
 use Rattle.records.proofs.store_own.Statement.{statement}
 use Rattle.records.proofs.store_own.Tie as tie
@@ -10,14 +8,11 @@ use Rattle.records.proofs.store_own.Tie as tie
 mul-at : tie.Need-mul-at
 mul-at c = search needs
 
-add-if1 : tie.Need-add-if1
-add-if1 c = search needs
-
 mul-records : tie.Need-mul-records
 mul-records c = search needs
 
-slice-write-records : tie.Need-slice-write-records
-slice-write-records c = search needs
+element-write-records : tie.Need-element-write-records
+element-write-records c = search needs
 
 add-records : tie.Need-add-records
 add-records c = search needs
@@ -25,8 +20,8 @@ add-records c = search needs
 mul-records-2 : tie.Need-mul-records-2
 mul-records-2 c = search needs
 
-slice-write-records-2 : tie.Need-slice-write-records-2
-slice-write-records-2 c = simp length-set (omega arith)
+element-write-records-2 : tie.Need-element-write-records-2
+element-write-records-2 c = search needs
 
 add-records-2 : tie.Need-add-records-2
 add-records-2 c = search needs
@@ -34,8 +29,8 @@ add-records-2 c = search needs
 mul-records-3 : tie.Need-mul-records-3
 mul-records-3 c = search needs
 
-slice-write-records-3 : tie.Need-slice-write-records-3
-slice-write-records-3 c = simp length-set (omega arith)
+element-write-records-3 : tie.Need-element-write-records-3
+element-write-records-3 c = search needs
 
 add-records-3 : tie.Need-add-records-3
 add-records-3 c = search needs
@@ -43,11 +38,8 @@ add-records-3 c = search needs
 mul-records-4 : tie.Need-mul-records-4
 mul-records-4 c = search needs
 
-slice-write-records-4 : tie.Need-slice-write-records-4
-slice-write-records-4 c = simp length-set (omega arith)
-
-same-length : tie.Need-same-length
-same-length c = simp length-set
+element-write-records-4 : tie.Need-element-write-records-4
+element-write-records-4 c = search needs
 
 returns : tie.Need-returns
 unfolding withOwn
@@ -62,18 +54,16 @@ store-own-spec =
     tie.close
     (tie.spec
     mul-at
-    add-if1
     mul-records
-    slice-write-records
+    element-write-records
     add-records
     mul-records-2
-    slice-write-records-2
+    element-write-records-2
     add-records-2
     mul-records-3
-    slice-write-records-3
+    element-write-records-3
     add-records-3
     mul-records-4
-    slice-write-records-4
-    same-length
+    element-write-records-4
     returns
     returns-2)

@@ -5,11 +5,11 @@ use Rattle.replay.proofs.main.Statement.{statement}
 use Rattle.replay.proofs.main.Tie as tie
 
 abbrev Inv-loop : tie.InvT-loop
-Inv-loop access₀ records₀ words₀ input₀ output₀ stand₀ turns₀ access records words input output stand turns =
+Inv-loop board₀ access₀ records₀ words₀ input₀ output₀ stand₀ turns₀ board access records words input output stand turns =
     stand .held ≤ 65536
 
 abbrev μ-loop : tie.MeasureT-loop
-μ-loop access₀ records₀ words₀ input₀ output₀ stand₀ turns₀ access records words input output stand turns =
+μ-loop board₀ access₀ records₀ words₀ input₀ output₀ stand₀ turns₀ board access records words input output stand turns =
     18446744073709551615 - turns
 
 large-buffer-requires : tie.Need-large-buffer-requires Inv-loop μ-loop
@@ -17,6 +17,9 @@ large-buffer-requires c κs = search needs
 
 large-buffer-requires-2 : tie.Need-large-buffer-requires-2 Inv-loop μ-loop
 large-buffer-requires-2 c κs = search needs
+
+start-requires : tie.Need-start-requires Inv-loop μ-loop
+start-requires c κs = search needs
 
 loop-holds : tie.Need-loop-holds Inv-loop μ-loop
 loop-holds c = search needs
@@ -47,6 +50,7 @@ main-spec =
     μ-loop
     large-buffer-requires
     large-buffer-requires-2
+    start-requires
     loop-holds
     returns
     turn-requires

@@ -4,6 +4,7 @@ use mathlib.Core.List.{[]}
 use denote.Ref.{now}
 use Rattle.rules.specs.declared.Kind.the-variants.{Request}
 use Rattle.rules.specs.Message.{Query}
+use Rattle.board.specs.Memory.{boardIn}
 use Rattle.operations.specs.Operation.{asked}
 use Rattle.operations.proofs.Rows.{Loaded, loaded-at, too-short, off-board, lacks-right, admitted, refuses, carries-own}
 use borrow.Author.Needs.{needs}
@@ -17,10 +18,10 @@ abbrev asks : tie.After-load → Query
 asks c = asked (start c .args .channel) (now (start c .args .message)) []
 
 at-N7 : (c : tie.After-load)
-    → Loaded Request (asks c) (now (start c .args .records)) (c .before .before .before .row-in .result) (c .load .result)
+    → Loaded (boardIn (now (start c .args .board))) Request (asks c) (now (start c .args .records)) (c .before .before .before .before .row-in .result) (c .load .result)
 at-N7 c =
-    loaded-at (c .before .before .before .before .if1 .left) refl (c .before .before .before .row-in .ensures)
-    (c .before .before .if2 .left)
+    loaded-at (c .before .before .before .before .before .if1 .left) refl (c .before .before .before .before .row-in .ensures)
+    (c .before .before .before .if2 .left)
     (c .load .ensures)
 
 returns : tie.Need-returns
@@ -38,9 +39,6 @@ load-requires c κs = search needs
 may-request-requires : tie.Need-may-request-requires
 may-request-requires c κs = search needs
 
-same-length : tie.Need-same-length
-same-length c = search needs
-
 returns-3 : tie.Need-returns-3
 returns-3 c =
     refuses (lacks-right (at-N7 (c .before .before) .reached) (c .before .may-request .ensures) (c .if3 .taken))
@@ -51,18 +49,15 @@ held-by-requires c κs = search needs
 store-own-requires : tie.Need-store-own-requires
 store-own-requires c κs = search needs
 
-same-length-2 : tie.Need-same-length-2
-same-length-2 c = search needs
-
 returns-4 : tie.Need-returns-4
 returns-4 c =
-    let d = c .before .before .before .before .before in
+    let d = c .before .before .before in
     let l = at-N7 (d .before .before) in
     carries-own refl refl l
     (admitted (l .reached) (d .before .may-request .ensures) (d .if3 .left) refl refl)
-    (c .before .before .before .held-by .ensures)
+    (c .before .held-by .ensures)
     (λ r. refl)
-    (c .before .before .store-own .ensures)
+    (c .store-own .ensures)
 
 pub request-spec : {M : Type 1} → statement M
 request-spec =
@@ -73,9 +68,7 @@ request-spec =
     returns-2
     load-requires
     may-request-requires
-    same-length
     returns-3
     held-by-requires
     store-own-requires
-    same-length-2
     returns-4)

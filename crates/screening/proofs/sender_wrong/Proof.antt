@@ -2,8 +2,10 @@
 use mathlib.Core.Path.{_≡_, refl, sym, _∙_}
 use mathlib.Core.Bool.{Bool, true, false, not, _||_}
 use borrow.Author.Tests.{eq-eqb, ne-eqb}
-use Rattle.rules.specs.Board.{ours, activeHost}
+use Rattle.rules.specs.Board.{activeHost}
+use Rattle.board.specs.Memory.{boardIn}
 use Rattle.rules.specs.Outcome.{senderWrong}
+use denote.Ref.{now}
 use borrow.Author.Needs.{needs}
 use Rattle.screening.proofs.sender_wrong.Statement.{statement}
 use Rattle.screening.proofs.sender_wrong.Tie as tie
@@ -23,7 +25,7 @@ byte-at-requires c κs = search needs
 
 returns : tie.Need-returns
 unfolding senderWrong
-returns c = unlike (activeHost ours (c .before .before .before .args .channel)) _ (ne-eqb _ _ (λ e. c .if1 .taken (e ∙ sym (c .before .byte-at .ensures))))
+returns c = unlike (activeHost (boardIn (now (c .before .before .before .args .board))) (c .before .before .before .args .channel)) _ (ne-eqb _ _ (λ e. c .if1 .taken (e ∙ sym (c .before .byte-at .ensures))))
 
 is-active-requires : tie.Need-is-active-requires
 is-active-requires c κs = search needs

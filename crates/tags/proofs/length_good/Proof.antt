@@ -1,16 +1,36 @@
--- `tags::length_good` meets its contract: a law for each tag. Assumes nothing.
-use Rattle.tags.proofs.Lengths.{list-length-good, words-length-good, message-length-good}
+-- `tags::length_good` meets its contract: each arm is a line of the table of lengths, and the rest is none of them. Assumes nothing.
+use borrow.Author.Tests.{ne-eqb}
+use Rattle.rules.specs.Table.{firstOf}
+use Rattle.tags.specs.Tags.{lengthGood}
 use Rattle.tags.proofs.length_good.Statement.{statement}
 use Rattle.tags.proofs.length_good.Tie as tie
 
 returns : tie.Need-returns
-returns c = list-length-good _ (c .before .args .length) (c .if1 .taken)
+unfolding lengthGood firstOf
+returns c = rw (c .match .keys1)
 
 returns-2 : tie.Need-returns-2
-returns-2 c = words-length-good _ (c .before .before .args .length) (c .if2 .taken)
+unfolding lengthGood firstOf
+returns-2 c = rw (c .match .keys2)
 
 returns-3 : tie.Need-returns-3
-returns-3 c = message-length-good _ (c .before .before .args .length) (c .before .if1 .left) (c .if2 .left)
+unfolding lengthGood firstOf
+returns-3 c = rw (c .match .keys3)
+
+returns-4 : tie.Need-returns-4
+unfolding lengthGood firstOf
+returns-4 c = rw (c .match .keys4)
+
+returns-5 : tie.Need-returns-5
+unfolding lengthGood firstOf
+returns-5 c =
+    let rest = c .match .rest in
+    simp (
+      ne-eqb _ 1 (rest .0 .0 .0 .1),
+      ne-eqb _ 2 (rest .0 .0 .1),
+      ne-eqb _ 3 (rest .0 .1),
+      ne-eqb _ 6 (rest .1),
+    )
 
 pub length-good-spec : {M : Type 1} → statement M
-length-good-spec = tie.close (tie.spec returns returns-2 returns-3)
+length-good-spec = tie.close (tie.spec returns returns-2 returns-3 returns-4 returns-5)

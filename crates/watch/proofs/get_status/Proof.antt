@@ -4,6 +4,7 @@ use denote.Ref.{now}
 use Rattle.rules.specs.declared.Kind.the-variants.{GetStatus}
 use Rattle.rules.specs.declared.Record.{Record}
 use Rattle.rules.specs.Message.{Query}
+use Rattle.board.specs.Memory.{boardIn}
 use Rattle.operations.specs.Operation.{asked}
 use Rattle.operations.proofs.Rows.{Reached, reached, Admitted, too-short, off-board, lacks-right, admitted}
 use Rattle.operations.proofs.StatusWords.{no-word, a-word, reads}
@@ -17,11 +18,11 @@ start c = c .before .before .before .before .before .before
 abbrev asks : tie.Else2 → Query
 asks c = asked (start c .args .channel) (now (start c .args .message)) (now (start c .args .status))
 
-at-N7 : (c : tie.Else2) (state : Record) → Reached GetStatus (asks c) (c .before .row-in .result) state state
+at-N7 : (c : tie.Else2) (state : Record) → Reached (boardIn (now (start c .args .board))) GetStatus (asks c) (c .before .row-in .result) state state
 at-N7 c state = reached (c .before .before .if1 .left) refl (c .before .row-in .ensures) (c .if2 .left) refl
 
 at-R3 : (c : tie.Else3) (state : Record)
-    → Admitted GetStatus (asks (c .before .before)) (now (start (c .before .before) .args .access)) state
+    → Admitted (boardIn (now (start (c .before .before) .args .board))) GetStatus (asks (c .before .before)) (now (start (c .before .before) .args .access)) state
 at-R3 c state = admitted (at-N7 (c .before .before) state) (c .before .is-permitted .ensures) (c .if3 .left) refl refl
 
 returns : tie.Need-returns

@@ -21,26 +21,23 @@ by-kind-requires c κs = search needs
 unwaited-requires : tie.Need-unwaited-requires
 unwaited-requires c κs = search needs
 
-same-length : tie.Need-same-length
-same-length c = search needs
-
 returns : tie.Need-returns
 returns c =
-    let a = c .before .before .before .before .before .before .before .before .before .before .before .args in
-    passed-on (now (a .access)) (now (a .records)) (a .channel) (now (a .message)) (now (a .status)) (a .room)
-    (c .before .before .before .before .before .before .admit .ensures) _ _
-    (c .before .before .before .before .enum-told .given .1)
-    (c .before .before .by-kind .ensures)
+    let a = c .before .before .before .before .before .before .before .before .args in
+    passed-on _ (now (a .access)) (now (a .records)) (a .channel) (now (a .message)) (now (a .status)) (a .room)
+    (c .before .before .before .before .admit .ensures) _ _
+    (c .before .before .enum-told .given .1)
+    (c .by-kind .ensures)
 
 returns-2 : tie.Need-returns-2
 returns-2 c =
-    let a = c .before .before .before .before .before .before .before .args in
-    subst⁻¹ (Decides (now (a .access)) (now (a .records)) _ _) (c .unwaited .ensures)
-    (refused-first (now (a .access)) (now (a .records)) (a .channel) (now (a .message)) (now (a .status)) (a .room)
+    let a = c .before .before .before .before .before .before .args in
+    subst⁻¹ (Decides _ (now (a .access)) (now (a .records)) _ _) (c .unwaited .ensures)
+    (refused-first _ (now (a .access)) (now (a .records)) (a .channel) (now (a .message)) (now (a .status)) (a .room)
     (c .before .before .admit .ensures)
     (λ ok. miss (0 ∷ 1 ∷ 2 ∷ 3 ∷ 4 ∷ 5 ∷ 6 ∷ 7 ∷ 8 ∷ 9 ∷ 10 ∷ 11 ∷ []) 12 tt (rw ok at (c .before .match .keys2))))
 
 pub decide-spec : {M : Type 1} → statement M
 decide-spec =
     tie.close
-    (tie.spec admit-requires enum-told by-kind-requires unwaited-requires same-length returns returns-2)
+    (tie.spec admit-requires enum-told by-kind-requires unwaited-requires returns returns-2)

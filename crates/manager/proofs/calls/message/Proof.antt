@@ -1,8 +1,8 @@
 -- `manager::message` meets its contract: its steps, over the whole memories lent, are those of the message call. Assumes nothing.
-use mathlib.Core.Path.{_≡_}
+use mathlib.Core.Path.{_≡_, sym, ap, _∙_}
 use lib.ListN.{length}
 use denote.Ref.{now}
-use Rattle.manager.proofs.TwoCalls.{message-call}
+use Rattle.manager.proofs.EachCall.{memory-length, message-call}
 use borrow.Author.Needs.{needs}
 use Rattle.manager.proofs.calls.message.Statement.{statement}
 use Rattle.manager.proofs.calls.message.Tie as tie
@@ -18,12 +18,14 @@ same-length c = search needs
 
 returns : tie.Need-returns
 returns c =
-    let a = c .before .before .before .before .before .before .before .before .before .before .before .before .before .before .args in
-    let la : length (now (a .access)) ≡ 17 = search needs in
-    let lm : length (now (a .records)) ≡ 20 = search needs in
-    message-call (now (a .access)) (now (a .records)) (a .channel) (now (a .message)) (now (a .status)) (now (a .answer)) la lm
-    (c .before .before .before .before .before .before .before .decide .result) (c .before .before .write-answer .result) _ _
-    (c .before .before .before .before .before .before .before .decide .ensures)
+    let a = c .before .before .before .before .before .before .before .before .before .before .before .before .args in
+    let d = c .before .before .before .before .before .before in
+    let la : length (now (a .access)) ≡ 129 = search needs in
+    let left : length (d .decide .last .1 .1 .0) ≡ 160 = search needs in
+    let lm : length (now (a .records)) ≡ 160 = sym (memory-length _ _ _ (now (a .records)) _) ∙ sym (ap length (d .decide .ensures .records)) ∙ left in
+    message-call _ (now (a .access)) (now (a .records)) (a .channel) (now (a .message)) (now (a .status)) (now (a .answer)) la lm
+    (d .decide .result) (c .before .before .write-answer .result) _ _
+    (d .decide .ensures)
     (c .before .before .write-answer .ensures)
 
 pub message-spec : {M : Type 1} → statement M

@@ -3,8 +3,9 @@ use mathlib.Core.Path.{ap, _∙_}
 use mathlib.Core.List.{List}
 use Prim.Native.Nat.{ℕ}
 use denote.Ref.{now}
+use Rattle.board.specs.Memory.{boardIn}
 use Rattle.records.specs.Memory.{stateIn}
-use Rattle.manager.proofs.TwoCalls.{list-state}
+use Rattle.manager.proofs.EachCall.{list-state}
 use borrow.Author.Needs.{needs}
 use Rattle.manager.proofs.calls.offer_list.Statement.{statement}
 use Rattle.manager.proofs.calls.offer_list.Tie as tie
@@ -19,7 +20,7 @@ returns c =
     record {
       verdict = told .0;
       memory = told .1;
-      state = λ records. ap (λ (m : List ℕ). stateIn m records) (told .1) ∙ list-state (now (a .access)) (now (a .list)) records;
+      state = λ records. ap (λ (m : List ℕ). stateIn (boardIn (now (a .board))) m records) (told .1) ∙ list-state _ (now (a .access)) (now (a .list)) records;
     }
 
 pub offer-list-spec : {M : Type 1} → statement M

@@ -1,0 +1,2 @@
+-- What the lent board memory holds.
+pub mod Memory

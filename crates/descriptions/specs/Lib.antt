@@ -1,0 +1,2 @@
+-- The steps of the judge of a description.
+pub mod Judged

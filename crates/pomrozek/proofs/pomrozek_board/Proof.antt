@@ -1,0 +1,20 @@
+-- `pomrozek_board` meets its contract: the board call, with the verdict's number. Assumes nothing.
+use mathlib.Core.Path.{ap, _∙_}
+use Rattle.rules.specs.Verdict.{verdictNumber}
+use borrow.Author.Needs.{needs}
+use Rattle.pomrozek.proofs.pomrozek_board.Statement.{statement}
+use Rattle.pomrozek.proofs.pomrozek_board.Tie as tie
+
+offer-board-requires : tie.Need-offer-board-requires
+offer-board-requires c κs = search needs
+
+verdict-number-requires : tie.Need-verdict-number-requires
+verdict-number-requires c κs = search needs
+
+returns : tie.Need-returns
+returns c =
+    let told = c .before .offer-board .ensures in
+    record { verdict = c .verdict-number .ensures ∙ ap verdictNumber (told .verdict); memory = told .memory-after }
+
+pub pomrozek-board-spec : {M : Type 1} → statement M
+pomrozek-board-spec = tie.close (tie.spec offer-board-requires verdict-number-requires returns)

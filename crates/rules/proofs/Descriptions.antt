@@ -1,0 +1,77 @@
+-- Board descriptions: document 01's board is one, computed; an accepted one lists no more processors than there are rows, so each that it lists is
+-- on the board. Assumes nothing.
+use Prim.Native.Nat.{ℕ, _≤_, _<_}
+use mathlib.Core.Path.{_≡_, refl, subst⁻¹, ap, _∙_}
+use mathlib.Core.Bool.{true, false, _||_}
+use mathlib.Core.List.{List, [], _∷_}
+use mathlib.Core.Logic.{⊎-elim}
+use native.Mathlib.Omega.{arith}
+use lib.ListN.{length, length-append}
+use lib.Dec.{eqb}
+use borrow.Author.Tests.{leb-false}
+use Rattle.rules.specs.declared.Item.{Item}
+use Rattle.rules.specs.declared.Verdict.the-variants.{Accepted}
+use Rattle.rules.specs.Table.{firstOf, anyOf, tableOf}
+use Rattle.rules.specs.Verdict.{accepted}
+use Rattle.rules.specs.Board.{rows, boardHost, activeHost, secureHost, onBoard}
+use Rattle.rules.specs.Description.{Description, nothingListed, ourDescription, bodySize, fieldGood, noItem, itemIn, fieldSize, itemsFrom, itemsIn, isHost, listsHost, listsProcessor, repeats, otherClass, isFull, itemTable, withItem, itemsTable, descriptionTable, boardVerdict, withItems, descriptionIn, markIn, boardOf, described, ours, ourBytes}
+use Rattle.rules.proofs.Tests.{decide, cond-true, cond-false, cleared, passed}
+use Rattle.rules.proofs.Rows.{listed-on}
+
+-- ---- document 01's board
+
+-- its description is taken, and describes it
+pub ours-taken : boardVerdict false ourBytes ≡ Accepted
+unfolding boardVerdict descriptionTable itemsTable itemTable firstOf anyOf nothingListed bodySize fieldGood noItem itemIn fieldSize itemsFrom itemsIn listsHost listsProcessor repeats otherClass isFull withItem
+ours-taken = refl
+
+pub ours-described : described ourBytes ≡ ours
+unfolding described ours descriptionIn withItems ourDescription firstOf nothingListed bodySize fieldGood noItem itemIn fieldSize itemsFrom itemsIn withItem
+ours-described = refl
+
+-- "3 and 10 secure; 4, 5, 6, 12, 13 not secure": of all host bytes
+pub ours-secure : tableOf (secureHost ours) 0 256 ≡ tableOf (λ (h : ℕ). eqb h 3 || eqb h 10) 0 256
+unfolding tableOf secureHost ours ourDescription boardOf markIn firstOf
+ours-secure = refl
+
+pub ours-hosts : tableOf (activeHost ours) 0 256 ≡ tableOf (λ (h : ℕ). anyOf (eqb h) (3 ∷ 10 ∷ 4 ∷ 5 ∷ 6 ∷ 12 ∷ 13 ∷ [])) 0 256
+unfolding tableOf anyOf activeHost boardHost ours ourDescription boardOf markIn firstOf
+ours-hosts = refl
+
+-- ---- any description
+
+abbrev Fits : Description → Type 0
+Fits d = length (d .processors) ≤ rows
+
+-- one more fits where the list was not full
+item-fits : (d : Description) (x : Item) → Fits d → isFull d x ≡ false → Fits (withItem d x)
+unfolding isFull withItem
+item-fits d x fits room =
+    ⊎-elim
+    (λ (t : isHost x ≡ true). rw t fits)
+    (λ (f : isHost x ≡ false).
+    let below = leb-false rows (length (d .processors)) (rw f at room) in
+    rw f (subst⁻¹ (λ (n : ℕ). n ≤ rows) (length-append (d .processors) _) (omega arith)))
+    (decide (isHost x))
+
+items-fit : (d : Description) (xs : List Item) → Fits d → accepted (firstOf Accepted (itemsTable d xs)) ≡ true → Fits (withItems d xs)
+unfolding itemsTable itemTable withItems accepted
+items-fit d [] fits ok = fits
+items-fit d (x ∷ xs) fits ok =
+    let d1 = passed accepted Accepted _ _ _ refl ok in
+    let d2 = passed accepted Accepted _ _ _ refl d1 in
+    let d3 = passed accepted Accepted _ _ _ refl d2 in
+    let d4 = passed accepted Accepted _ _ _ refl d3 in
+    let d5 = passed accepted Accepted _ _ _ refl d4 in
+    items-fit (withItem d x) xs (item-fits d x fits (cleared accepted Accepted _ _ _ refl d5)) (passed accepted Accepted _ _ _ refl d5)
+
+-- an accepted description lists no more processors than there are rows
+pub accepted-fits : (bytes : List ℕ) → accepted (boardVerdict false bytes) ≡ true → length (descriptionIn bytes .processors) ≤ rows
+unfolding boardVerdict descriptionTable descriptionIn nothingListed accepted
+accepted-fits bytes ok = items-fit nothingListed (itemsIn bytes) (omega arith) (passed accepted Accepted _ _ _ refl ok)
+
+-- so each that it lists, by a byte, is on the board
+pub accepted-on : (bytes : List ℕ) (p : ℕ) → accepted (boardVerdict false bytes) ≡ true → p < 256
+    → listsProcessor (descriptionIn bytes) p ≡ true → onBoard (described bytes) p ≡ true
+unfolding described
+accepted-on bytes p ok byte some = listed-on (descriptionIn bytes) p byte some (accepted-fits bytes ok)

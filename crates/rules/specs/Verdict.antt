@@ -1,0 +1,27 @@
+-- The number of a verdict, for document 01's list and document 02's offers. Assumes nothing.
+use Prim.Native.Nat.{ℕ}
+use mathlib.Core.Bool.{Bool}
+use lib.Dec.{eqb}
+use Rattle.rules.specs.declared.Verdict.{Verdict}
+use Rattle.rules.specs.declared.Verdict.the-variants.{Accepted, A1, A2, A3, A4, A5, A6, A7, A8, D1, D2, D3, D4, D5, D6}
+
+-- 0 for what was accepted, k for Ak, 200 + k for Dk
+abbrev pub verdictNumber : Verdict → ℕ
+verdictNumber Accepted = 0
+verdictNumber A1 = 1
+verdictNumber A2 = 2
+verdictNumber A3 = 3
+verdictNumber A4 = 4
+verdictNumber A5 = 5
+verdictNumber A6 = 6
+verdictNumber A7 = 7
+verdictNumber A8 = 8
+verdictNumber D1 = 201
+verdictNumber D2 = 202
+verdictNumber D3 = 203
+verdictNumber D4 = 204
+verdictNumber D5 = 205
+verdictNumber D6 = 206
+
+unfoldable pub accepted : Verdict → Bool
+accepted v = eqb (verdictNumber v) 0
