@@ -1,4 +1,4 @@
-# `make demo` proves and builds the replay program and replays the worked session; `make test` passes everything.
+# `make demo` proves and builds the replay program and replays the worked sessions; `make test` passes everything.
 .PHONY: demo test quick measure
 
 demo:

@@ -1,2 +1,2 @@
-// Demand 3 of the papers, said of the code: traces of the two calls that crate manager promises. The
+// Demand 3 of the papers, said of the code: traces of the calls that crate manager promises. The
 // statement is specs/Statement.antt and the theorem proofs/Theorem.antt; no code is here.
