@@ -4,4 +4,5 @@ pub mod OneCall
 pub mod Sequences
 pub mod Theorem
 pub mod OnTheBench
+pub mod OnThePack
 pub mod Clusters

@@ -11,13 +11,13 @@ use lib.Dec.{eqb}
 use borrow.Author.Tests.{not-true}
 use Rattle.rules.specs.Table.{anyOf, allOf, allFrom}
 use Rattle.rules.specs.Board.{Board, rowOf, onBoard, shareControl}
-use Rattle.rules.specs.Description.{Processor, Description, ourDescription, listsProcessor, shareWord, boardVerdict, descriptionIn, boardOf, described, ours}
+use Rattle.rules.specs.Description.{Processor, Description, ourDescription, listsProcessor, shareWord, boardVerdict, descriptionIn, boardOf, described, ours, Good}
 use Rattle.rules.specs.Verdict.{accepted}
 use Rattle.rules.specs.AccessList.{Entry, noEntry, parts, namedIn, hasEntry, verdictOf}
 use Rattle.rules.specs.Message.{Query}
 use Rattle.rules.specs.State.{listed, listIn, Setup, State, fresh, entryOf, recordOf, stored}
 use Rattle.rules.specs.Call.{board, list, verdictTo, taken, afterOffer, afterMessage, queryOf, Call, offer, message, next}
-use Rattle.rules.specs.Sequence.{run, freeOrPermitted, Good, Sound}
+use Rattle.rules.specs.Sequence.{run, freeOrPermitted, Sound}
 use Rattle.rules.proofs.Tests.{decide, clash, and-left, and-right, or-cases, or-left, or-right, cond-true, cond-false, allOf-member, allOf-all, allFrom-all}
 use Rattle.rules.proofs.Rows.{placed, listed-member}
 use Rattle.rules.proofs.Homes.{board-good, share-clusters}

@@ -2,8 +2,8 @@
 -- on the board. Assumes nothing.
 use Prim.Native.Nat.{ℕ, _≤_, _<_}
 use mathlib.Core.Path.{_≡_, refl, subst⁻¹, ap, _∙_}
-use mathlib.Core.Bool.{true, false, _||_}
-use mathlib.Core.List.{List, [], _∷_}
+use mathlib.Core.Bool.{Bool, true, false, cond, not, _||_, or-false}
+use mathlib.Core.List.{List, [], _∷_, map}
 use mathlib.Core.Logic.{⊎-elim}
 use native.Mathlib.Omega.{arith}
 use lib.ListN.{length, length-append}
@@ -11,11 +11,12 @@ use lib.Dec.{eqb}
 use borrow.Author.Tests.{leb-false}
 use Rattle.rules.specs.declared.Item.{Item}
 use Rattle.rules.specs.declared.Verdict.the-variants.{Accepted}
-use Rattle.rules.specs.Table.{firstOf, anyOf, tableOf}
+use Rattle.rules.specs.Table.{_gives_, firstOf, anyOf, tableOf}
 use Rattle.rules.specs.Verdict.{accepted}
 use Rattle.rules.specs.Board.{rows, boardHost, activeHost, secureHost, onBoard}
-use Rattle.rules.specs.Description.{Description, nothingListed, ourDescription, bodySize, fieldGood, noItem, itemIn, fieldSize, itemsFrom, itemsIn, isHost, listsHost, listsProcessor, repeats, otherClass, isFull, itemTable, withItem, itemsTable, descriptionTable, boardVerdict, withItems, descriptionIn, markIn, boardOf, described, ours, ourBytes}
+use Rattle.rules.specs.Description.{Host, Description, nothingListed, ourDescription, bodySize, fieldGood, noItem, itemIn, fieldSize, itemsFrom, itemsIn, isHost, listsHost, listsProcessor, repeats, otherClass, isFull, itemTable, withItem, itemsTable, descriptionTable, boardVerdict, withItems, descriptionIn, markIn, boardOf, described, ours, ourBytes}
 use Rattle.rules.proofs.Tests.{decide, cond-true, cond-false, cleared, passed}
+use Rattle.rules.proofs.Tables.{table-here, table-past}
 use Rattle.rules.proofs.Rows.{listed-on}
 
 -- ---- document 01's board
@@ -39,6 +40,31 @@ unfolding tableOf anyOf activeHost boardHost ours ourDescription boardOf markIn 
 ours-hosts = refl
 
 -- ---- any description
+
+-- the mark of a host says that it is listed
+mark-listed : (xs : List Host) (h : ℕ)
+    → not (eqb (firstOf 0 (map (λ (x : Host). eqb h (x .number) gives cond (x .secure) 2 1) xs)) 0) ≡ anyOf (λ (x : Host). eqb h (x .number)) xs
+unfolding firstOf anyOf
+mark-listed [] h = refl
+mark-listed (x ∷ xs) h =
+    ⊎-elim
+    (λ (t : eqb h (x .number) ≡ true). rw t (marked (x .secure)))
+    (λ (f : eqb h (x .number) ≡ false). rw f (mark-listed xs h))
+    (decide (eqb h (x .number)))
+  where
+    marked : (secure : Bool) → not (eqb (cond secure 2 1) 0) ≡ true
+    marked true = refl
+    marked false = refl
+
+-- the hosts of a board are host 0 and the listed ones, of all host bytes; a number above them is on no board
+pub host-rule : (d : Description) (h : ℕ) → h < 256 → boardHost (boardOf d) h ≡ (eqb h 0 || listsHost d h)
+unfolding boardHost boardOf markIn listsHost
+host-rule d h byte =
+    ap (λ (n : ℕ). eqb h 0 || not (eqb n 0)) (table-here (markIn d) 0 256 h byte) ∙ ap (λ (x : Bool). eqb h 0 || x) (mark-listed (d .hosts) h)
+
+pub host-past : (d : Description) (h : ℕ) → 256 ≤ h → boardHost (boardOf d) h ≡ eqb h 0
+unfolding boardHost boardOf
+host-past d h past = ap (λ (n : ℕ). eqb h 0 || not (eqb n 0)) (table-past (markIn d) 0 256 0 h past) ∙ or-false (eqb h 0)
 
 abbrev Fits : Description → Type 0
 Fits d = length (d .processors) ≤ rows

@@ -12,8 +12,7 @@ use lib.Dec.{eqb}
 use borrow.Author.Tests.{eqb-true, eq-eqb, ne-eqb, not-true}
 use Rattle.rules.specs.Table.{placeOf}
 use Rattle.rules.specs.Board.{Board, armv8, rows, rowOf, onBoard, classAt, classOf, homeAt, homeOf, shareControl}
-use Rattle.rules.specs.Description.{Processor, Description, rowIn, classIn, sharedCluster, sharedIn, homeIn, shareWord, boardOf}
-use Rattle.rules.specs.Sequence.{Good}
+use Rattle.rules.specs.Description.{Processor, Description, rowIn, classIn, sharedCluster, sharedIn, homeIn, shareWord, boardOf, Good}
 use Rattle.rules.proofs.Tests.{decide, clash, cond-true, cond-false, and-left, and-right, and-both, or-cases, or-left, or-right}
 use Rattle.rules.proofs.Tables.{table-here}
 use Rattle.rules.proofs.Rows.{placed, row-one}

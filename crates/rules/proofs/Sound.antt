@@ -13,14 +13,14 @@ use Rattle.rules.specs.declared.Record.{Record}
 use Rattle.rules.specs.Table.{firstOf}
 use Rattle.rules.specs.Verdict.{accepted}
 use Rattle.rules.specs.Board.{Board, rows, rowOf, onBoard, homeAt, homeOf}
-use Rattle.rules.specs.Description.{descriptionTable, boardVerdict, descriptionIn, described}
+use Rattle.rules.specs.Description.{descriptionTable, boardVerdict, descriptionIn, described, Good}
 use Rattle.rules.specs.AccessList.{noEntry, listTable, verdictOf}
 use Rattle.rules.specs.Message.{Query, subjectOf}
 use Rattle.rules.specs.Outcome.{outcomeOf, carriedOut}
 use Rattle.rules.specs.Effect.{recordAfter}
 use Rattle.rules.specs.State.{listed, listIn, Own, State, ownOf, joined, freeOwn, fresh, entryOf, recordIn, recordOf, viewOf, putIn, stored}
 use Rattle.rules.specs.Call.{Offer, board, list, verdictTo, taken, afterOffer, afterMessage, queryOf, Call, offer, message, next}
-use Rattle.rules.specs.Sequence.{run, permittedFor, freeOrPermitted, Good, Sound}
+use Rattle.rules.specs.Sequence.{run, permittedFor, freeOrPermitted, Sound}
 use Rattle.rules.proofs.Tests.{decide, clash, or-left, cond-true, cond-false}
 use Rattle.rules.proofs.Homes.{board-good}
 use Rattle.rules.proofs.Rights.{soundly, allowed, after-sound, refusal-keeps}

@@ -3,7 +3,7 @@
 use Prim.Native.Nat.{ℕ, zero, suc, _+_}
 use mathlib.Core.List.{List, [], _∷_, _++_}
 use lib.ListN.{replicate}
-use Rattle.rules.specs.declared.Outcome.the-variants.{N2, N6, Ok}
+use Rattle.rules.specs.declared.Outcome.the-variants.{N2, N6, N7, Ok}
 use Rattle.rules.specs.declared.Verdict.{Verdict}
 use Rattle.rules.specs.declared.Verdict.the-variants.{Accepted, A1, A5, D1, D2, D3, D4, D5, D6}
 use Rattle.rules.specs.Description.{ourBytes}
@@ -33,6 +33,16 @@ abbrev pub packBytes : List ℕ
 packBytes =
     aHost 20 1 ++ aHost 21 0 ++ aProcessor 7 0 2 ++ aProcessor 8 0 2 ++ aProcessor 40 1 3 ++ aProcessor 41 1 3 ++ aProcessor 42 1 3
     ++ aProcessor 43 1 0 ++ aProcessor 255 0 0
+
+-- a list for it: 20 is the recovery master of 7 and of the three, and 21 a secondary of 7 and of 42
+abbrev pub packList : List ℕ
+packList =
+    (0xEA ∷ 0xF1 ∷ 0x24 ∷ 0x01 ∷ [])
+    ++ (7 ∷ 20 ∷ 0 ∷ 21 ∷ 0 ∷ 0 ∷ 0 ∷ 0 ∷ 0 ∷ [])
+    ++ (40 ∷ 20 ∷ 0 ∷ 0 ∷ 0 ∷ 0 ∷ 0 ∷ 0 ∷ 0 ∷ [])
+    ++ (41 ∷ 20 ∷ 0 ∷ 0 ∷ 0 ∷ 0 ∷ 0 ∷ 0 ∷ 0 ∷ [])
+    ++ (42 ∷ 20 ∷ 0 ∷ 21 ∷ 0 ∷ 0 ∷ 0 ∷ 0 ∷ 0 ∷ [])
+    ++ replicate 252 0
 
 -- a list with no used entry: every processor is open to every host of the board but 0
 abbrev pub openList : List ℕ
@@ -100,6 +110,13 @@ boarded =
       earlier = offer (board (aHost 20 1 ++ aHost 0 0)) ∷ offer (list benchList) ∷ [];
       call = request 3 1;
       gives = answer Ok 0 0 (header 0x00 0xC0 3 2) (heldWith 3 0);
+    }
+    -- a list that the pack's board accepts; host 21 is no secondary of 41
+    ∷ record { earlier = offer (board packBytes) ∷ []; call = offer (list packList); gives = verdict Accepted }
+    ∷ record {
+      earlier = offer (board packBytes) ∷ offer (list packList) ∷ [];
+      call = request 21 41;
+      gives = answer N7 0 0 (header 0x00 0xC0 21 0) (heldWith 0 0);
     }
     -- three cores of a cluster have one control word
     ∷ record {

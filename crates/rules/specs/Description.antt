@@ -1,6 +1,7 @@
 -- Document 02, L8, "Larger boards": a board description; why one is refused, in order; the board that an accepted one leaves; and document 01's
 -- board, "Our board", which is one description. Assumes nothing.
-use Prim.Native.Nat.{ℕ, zero, suc, _+_}
+use Prim.Native.Nat.{ℕ, zero, suc, _+_, _≤_}
+use mathlib.Core.Path.{_≡_}
 use mathlib.Core.Bool.{Bool, true, false, cond, not, _&&_, _||_}
 use mathlib.Core.List.{List, [], _∷_, _++_, map}
 use lib.ListN.{length, getD, drop}
@@ -10,7 +11,7 @@ use Rattle.rules.specs.declared.Verdict.{Verdict}
 use Rattle.rules.specs.declared.Verdict.the-variants.{Accepted, A1, D1, D2, D3, D4, D5, D6}
 use Rattle.rules.specs.Table.{Line, _gives_, firstOf, anyOf, placeOf, allFrom, tableOf}
 use Rattle.rules.specs.Bytes.{byteAt, u16At}
-use Rattle.rules.specs.Board.{Board, r5, armv8, rows, hostLimit}
+use Rattle.rules.specs.Board.{Board, r5, armv8, rows, hostLimit, rowOf, onBoard, classOf, homeAt, homeOf}
 
 pub record Host : Type 0 where
   pub number : ℕ
@@ -98,7 +99,7 @@ itemsFrom zero bytes = []
 itemsFrom (suc n) bytes =
     cond (eqb (length bytes) 0) [] (itemIn bytes ∷ itemsFrom n (drop (fieldSize (itemIn bytes)) bytes))
 
--- each has at least one byte
+-- each takes at least one byte, so there are no more than bytes
 unfoldable pub itemsIn : List ℕ → List Item
 itemsIn bytes = itemsFrom (length bytes) bytes
 
@@ -236,3 +237,15 @@ ourBytes =
     ++ (2 ∷ 3 ∷ 0 ∷ 2 ∷ 0 ∷ 0 ∷ [])
     ++ (2 ∷ 3 ∷ 0 ∷ 32 ∷ 1 ∷ 1 ∷ [])
     ++ (2 ∷ 3 ∷ 0 ∷ 33 ∷ 1 ∷ 1 ∷ [])
+
+-- ---- what holds of every such board
+
+-- and not of every content of the tables; shown once for any description (`board-good` in proofs/Homes.antt)
+pub record Good (b : Board) : Type 0 where
+  -- rows are one-to-one: two processors of which one is on the board have one row only if they are one
+  pub rows-apart : (p r : ℕ) → rowOf b p ≡ rowOf b r → onBoard b r ≡ true → p ≡ r
+  -- processors that share a control word have one class
+  pub sharers-class : (p r : ℕ) → onBoard b p ≡ true → onBoard b r ≡ true → homeOf b p ≡ homeOf b r → classOf b p ≡ classOf b r
+  -- a home is a row, that of the processor or of one before it, and its own home
+  pub home-within : (p : ℕ) → onBoard b p ≡ true → homeOf b p ≤ rowOf b p
+  pub home-home : (p : ℕ) → onBoard b p ≡ true → homeAt b (homeOf b p) ≡ homeOf b p

@@ -1,5 +1,5 @@
 -- Sequences of calls ("What demand 3 speaks of"): the state that they leave, and what holds of every such state. Assumes nothing.
-use Prim.Native.Nat.{ℕ, _≤_}
+use Prim.Native.Nat.{ℕ}
 use mathlib.Core.Path.{_≡_}
 use mathlib.Core.Bool.{Bool, true, false, _||_}
 use mathlib.Core.List.{List, [], _∷_}
@@ -7,7 +7,8 @@ use lib.ListN.{length, getD}
 use lib.Dec.{eqb}
 use Rattle.rules.specs.declared.Record.{Record}
 use Rattle.rules.specs.Verdict.{accepted}
-use Rattle.rules.specs.Board.{Board, rows, rowOf, onBoard, classOf, homeAt, homeOf}
+use Rattle.rules.specs.Board.{rows, rowOf, onBoard, homeOf}
+use Rattle.rules.specs.Description.{Good}
 use Rattle.rules.specs.AccessList.{permitted, entriesOf, verdictOf}
 use Rattle.rules.specs.Outcome.{isFree}
 use Rattle.rules.specs.State.{listed, listIn, Setup, State, freeOwn, fresh, entryOf, recordOf}
@@ -25,16 +26,6 @@ permittedFor setup p h = permitted (setup .board) (entryOf setup p) h
 -- processor p, with this record, is free or held by a host that is permitted for it
 unfoldable pub freeOrPermitted : Setup → ℕ → Record → Bool
 freeOrPermitted setup p r = isFree r || permittedFor setup p (r .controller)
-
--- what holds of a board that a description gives, and not of every content of the tables
-pub record Good (b : Board) : Type 0 where
-  -- rows are one-to-one: two processors of which one is on the board have one row only if they are one
-  pub rows-apart : (p r : ℕ) → rowOf b p ≡ rowOf b r → onBoard b r ≡ true → p ≡ r
-  -- processors that share a control word have one class
-  pub sharers-class : (p r : ℕ) → onBoard b p ≡ true → onBoard b r ≡ true → homeOf b p ≡ homeOf b r → classOf b p ≡ classOf b r
-  -- a home is a row, that of the processor or of one before it, and its own home
-  pub home-within : (p : ℕ) → onBoard b p ≡ true → homeOf b p ≤ rowOf b p
-  pub home-home : (p : ℕ) → onBoard b p ≡ true → homeAt b (homeOf b p) ≡ homeOf b p
 
 -- the invariant of every state that calls left, whatever the calls
 pub record Sound (s : State) : Type 0 where

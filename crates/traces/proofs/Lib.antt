@@ -3,3 +3,4 @@ pub mod Kept
 pub mod Steps
 pub mod Theorem
 pub mod OnTheBench
+pub mod OnThePack

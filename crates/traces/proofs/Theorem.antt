@@ -11,13 +11,13 @@ use Rattle.rules.specs.declared.Report.{Report}
 use Rattle.rules.specs.declared.Verdict.the-variants.{Accepted}
 use Rattle.rules.specs.Table.{anyOf, allOf, tableOf}
 use Rattle.rules.specs.Board.{Board, rowOf}
-use Rattle.rules.specs.Description.{ours}
+use Rattle.rules.specs.Description.{ours, Good}
 use Rattle.rules.specs.Verdict.{accepted}
 use Rattle.rules.specs.AccessList.{parts, namedIn, verdictOf}
 use Rattle.rules.specs.Outcome.{carriedOut}
 use Rattle.rules.specs.State.{listed, State, fresh, recordOf, stored}
 use Rattle.rules.specs.Call.{list, verdictTo, taken, afterOffer, afterMessage, Answer, answerTo, Lent, queryOf, Call, offer, message, next}
-use Rattle.rules.specs.Sequence.{run, freeOrPermitted, Good}
+use Rattle.rules.specs.Sequence.{run, freeOrPermitted}
 use Rattle.rules.proofs.Tests.{decide, cond-true}
 use Rattle.rules.proofs.Sound.{offer-kept as kept-by-offer, first-accepted}
 use Rattle.noninterference.specs.Statement.{clustersWhole, answers, Noninterference, boardLeft}

@@ -1,0 +1,66 @@
+-- The theorem about the code is not empty on a described board: the board call takes a description over a fresh manager's memories, its board
+-- accepts a list, and the theorem applies. Assumes nothing.
+use Prim.Native.Nat.{ℕ}
+use mathlib.Core.Path.{_≡_, refl, subst⁻¹}
+use mathlib.Core.Bool.{false}
+use mathlib.Core.List.{List, [], _∷_}
+use lib.ListN.{replicate}
+use Rattle.rules.specs.declared.Verdict.the-variants.{Accepted}
+use Rattle.rules.specs.Table.{firstOf, anyOf, allOf, placeOf, allFrom, tableOf}
+use Rattle.rules.specs.Verdict.{accepted}
+use Rattle.rules.specs.Board.{Board, boardHost, activeHost, rowOf, onBoard, homeAt, homeOf, shareControl}
+use Rattle.rules.specs.Description.{nothingListed, bodySize, fieldGood, noItem, itemIn, fieldSize, itemsFrom, itemsIn, listsHost, listsProcessor, repeats, otherClass, isFull, itemTable, withItem, itemsTable, descriptionTable, boardVerdict, withItems, descriptionIn, markIn, rowIn, classIn, sharedCluster, sharedIn, homeIn, shareWord, boardOf, described, ours}
+use Rattle.rules.specs.AccessList.{partsFrom, namedIn, entryTable, entriesTable, listTable, verdictOf}
+use Rattle.rules.specs.Boards.{packBytes, packList}
+use Rattle.noninterference.specs.Statement.{clustersWhole}
+use Rattle.board.specs.Memory.{boardIn, boardBytes}
+use Rattle.board.proofs.Read.{board-back}
+use Rattle.boards.specs.Filled.{boardAfter}
+use Rattle.access.specs.Memory.{listedIn}
+use Rattle.loading.specs.Loaded.{accessAfter}
+use Rattle.manager.specs.Calls.{BoardCall, ListCall}
+use Rattle.manager.proofs.EachCall.{board-call, list-state}
+use Rattle.traces.specs.Trace.{Memories, started, boardStep, listStep, beforeOf, afterOf, Meets, done, step, Loaded}
+use Rattle.traces.specs.Statement.{CodeNoninterference}
+use Rattle.traces.proofs.Theorem.{of-the-code}
+
+abbrev zeros : List ℕ
+zeros = replicate 129 0
+
+abbrev described-memories : Memories
+described-memories = record { board = boardBytes (described packBytes); access = zeros; records = replicate 160 0 }
+
+abbrev listed-memories : Memories
+listed-memories =
+    record { board = boardBytes (described packBytes); access = accessAfter (described packBytes) zeros packList; records = replicate 160 0 }
+
+-- the board call over the start's memory
+pack-taken : BoardCall (boardBytes ours) zeros packBytes (boardBytes (described packBytes)) Accepted
+unfolding firstOf anyOf allOf placeOf tableOf nothingListed bodySize fieldGood noItem itemIn fieldSize itemsFrom itemsIn listsHost listsProcessor repeats otherClass isFull itemTable withItem itemsTable descriptionTable boardVerdict withItems descriptionIn markIn rowIn classIn sharedCluster sharedIn homeIn shareWord boardOf accepted boardAfter listedIn
+pack-taken = board-call (boardBytes ours) zeros packBytes (boardBytes (described packBytes)) {x = false} refl refl refl
+
+pack-back : boardIn (boardBytes (described packBytes)) ≡ described packBytes
+unfolding described
+pack-back = board-back (descriptionIn packBytes)
+
+-- the list call on its board
+list-taken : ListCall (described packBytes) zeros packList (accessAfter (described packBytes) zeros packList) Accepted
+unfolding firstOf anyOf allOf placeOf tableOf nothingListed bodySize fieldGood noItem itemIn fieldSize itemsFrom itemsIn listsHost listsProcessor repeats otherClass isFull itemTable withItem itemsTable descriptionTable boardVerdict withItems descriptionIn markIn rowIn classIn sharedCluster sharedIn homeIn shareWord boardOf described boardHost activeHost rowOf onBoard partsFrom namedIn entryTable entriesTable listTable verdictOf listedIn
+list-taken = record { verdict = refl; memory = refl; state = list-state (described packBytes) zeros packList }
+
+pub pack-loaded : Loaded (described packBytes) packList listed-memories
+unfolding Meets beforeOf afterOf
+pack-loaded =
+    record {
+      earlier = boardStep packBytes started described-memories Accepted ∷ [];
+      before = described-memories;
+      trace =
+          step {x = boardStep packBytes started described-memories Accepted} refl (pack-taken, refl, refl)
+          (step {x = listStep packList described-memories listed-memories Accepted} refl
+          (subst⁻¹ (λ (b : Board). ListCall b zeros packList (accessAfter (described packBytes) zeros packList) Accepted) pack-back list-taken, refl, refl) done);
+      in-force = pack-back;
+    }
+
+pub on-the-pack : CodeNoninterference (described packBytes) packList (40 ∷ 41 ∷ 42 ∷ [])
+unfolding firstOf anyOf allOf placeOf tableOf nothingListed bodySize fieldGood noItem itemIn fieldSize itemsFrom itemsIn listsHost listsProcessor repeats otherClass isFull itemTable withItem itemsTable descriptionTable boardVerdict withItems descriptionIn markIn rowIn classIn sharedCluster sharedIn homeIn shareWord boardOf described allFrom rowOf onBoard homeAt homeOf shareControl partsFrom namedIn clustersWhole
+on-the-pack = of-the-code (described packBytes) packList (40 ∷ 41 ∷ 42 ∷ []) refl refl
