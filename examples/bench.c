@@ -6,6 +6,9 @@
  *     N7 0 0 00c0050100000000
  *     OK 0 0 -
  *
+ * With an argument it first describes the largest board, 64 hosts and 32 processors, and prints
+ * `board OK` before these lines: the session is the same there.
+ *
  * Build it from the repository's root, after `rt staticlib pomrozek`:
  *
  *     cc -std=c99 -Wall -Wextra -Werror -pedantic -O2 -Iinclude examples/bench.c \
@@ -32,11 +35,13 @@ static const uint8_t request_by_3[] = {0x00, 0xC0, 3, 7, 2, 0, 0, 0, 1};
 static const uint8_t request_by_5[] = {0x00, 0xC0, 5, 1, 2, 0, 0, 0, 1};
 static const uint8_t release_by_3[] = {0x01, 0xC0, 3, 8, 0, 0, 0, 0, 1};
 
-/* Prints a verdict's name: OK, or A1 to A8. */
+/* Prints a verdict's name: OK, A1 to A8, or D1 to D6 for the numbers above 200. */
 static void print_verdict(uint32_t verdict)
 {
     if (verdict == POMROZEK_ACCEPTED)
         printf("OK");
+    else if (verdict > 200)
+        printf("D%u", (unsigned)(verdict - 200));
     else
         printf("A%u", (unsigned)verdict);
 }
@@ -61,6 +66,36 @@ static void print_answer(const uint8_t *answer, uint32_t written)
         printf("-");
     for (i = 0; i < written; i++)
         printf("%02x", (unsigned)answer[i]);
+}
+
+/*
+ * Describes the largest board, and prints the verdict: hosts 1 to 64, of which 3 and 10 are secure, and
+ * processors 32 down to 1, each R5 and alone, so that processor 1 has the last row.
+ */
+static void describe(void)
+{
+    uint8_t bytes[5 * POMROZEK_HOSTS + 6 * POMROZEK_ROWS];
+    size_t length = 0;
+    uint8_t number;
+
+    for (number = 1; number <= POMROZEK_HOSTS; number++) {
+        bytes[length++] = 1; /* a host: two bytes */
+        bytes[length++] = 2;
+        bytes[length++] = 0;
+        bytes[length++] = number;
+        bytes[length++] = number == 3 || number == 10;
+    }
+    for (number = POMROZEK_ROWS; number >= 1; number--) {
+        bytes[length++] = 2; /* a processor: three bytes */
+        bytes[length++] = 3;
+        bytes[length++] = 0;
+        bytes[length++] = number;
+        bytes[length++] = 0; /* R5 */
+        bytes[length++] = 0; /* alone */
+    }
+    printf("board ");
+    print_verdict(pomrozek_board(board_memory, access_memory, bytes, length));
+    printf("\n");
 }
 
 /* Offers the list and prints the verdict. */
@@ -90,9 +125,12 @@ static void deliver(uint8_t channel, const uint8_t *message, size_t length)
     printf("\n");
 }
 
-int main(void)
+int main(int argc, char **argv)
 {
+    (void)argv;
     pomrozek_start(board_memory); /* document 01's board */
+    if (argc > 1)
+        describe();
     offer(bench_list, sizeof bench_list);
     deliver(3, request_by_3, sizeof request_by_3); /* free and permitted: granted */
     deliver(5, request_by_5, sizeof request_by_5); /* held by 3, and 5 is no recovery master: N7 */

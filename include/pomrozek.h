@@ -9,7 +9,7 @@
  * State. A manager is one board memory, one access memory and one record memory. pomrozek_start
  * fills the board memory; access and record memory all zeros are a fresh manager's, so static arrays
  * need no set-up. Any content is a state, and no content is undefined. A board memory of zeros is a
- * board where every processor number is in row 0 and there is no host: call pomrozek_start first.
+ * board with every processor number in row 0 and no host but 0: call pomrozek_start first.
  *
  * Pointers. Each must be aligned for its type and valid for its whole length. None may be null,
  * also where its length is 0. Arrays lent to one call must not overlap each other.
@@ -128,7 +128,8 @@ enum pomrozek_report {
 /*
  * Fills the board memory with document 01's board, whatever it held: hosts 3 and 10, secure, and 4, 5,
  * 6, 12, 13; processors 1 and 2, R5, and 32 and 33, ARMv8 and one cluster, in rows 0 to 3. It stands
- * until a description is taken.
+ * until a description is taken. Call it with access and record memory all zeros, never while a list is
+ * in force: the entries and records would then be another board's.
  *
  * board  the board memory
  */

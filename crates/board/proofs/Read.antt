@@ -1,8 +1,8 @@
 -- The board memory as it is read: each look-up of the rules is one byte of it, for any content; and the bytes of a board whose tables have their
 -- lengths read as that board. Assumes nothing.
 use Prim.Native.Nat.{ℕ, _+_, _%_, _≤_, _<_}
-use mathlib.Core.Path.{_≡_, refl, sym, subst, ap, _∙_}
-use mathlib.Core.Bool.{Bool, true, false, not, _||_}
+use mathlib.Core.Path.{_≡_, sym, ap, _∙_}
+use mathlib.Core.Bool.{Bool, false, not, _||_}
 use mathlib.Core.List.{List, _++_}
 use native.Mathlib.Nat.{zero-add}
 use native.Mathlib.Omega.{arith}
@@ -23,9 +23,9 @@ module _ (m : List ℕ) where
       ap (λ (n : ℕ). not (eqb n 0)) (sym (table-here (λ (k : ℕ). getD m k 0) 0 256 h byte))
       ∙ ap (λ (z : Bool). z || not (eqb (getD (boardIn m .hosts) h 0) 0)) (sym some)
 
-  pub host-past : (h : ℕ) → 256 ≤ h → eqb h 0 ≡ false → false ≡ boardHost (boardIn m) h
+  pub host-none : (h : ℕ) → 256 ≤ h → eqb h 0 ≡ false → false ≡ boardHost (boardIn m) h
   unfolding boardHost boardIn
-  host-past h past some = rw (some, table-past (λ (k : ℕ). getD m k 0) 0 256 0 h past)
+  host-none h past some = rw (some, table-past (λ (k : ℕ). getD m k 0) 0 256 0 h past)
 
   pub row-read : (p : ℕ) → p < 256 → getD m (256 + p) 0 ≡ rowOf (boardIn m) p
   unfolding rowOf boardIn
@@ -81,7 +81,7 @@ module _ (b : Board) (size-hosts : length (b .hosts) ≡ 256) (size-places : len
   in-first : (k : ℕ) → k < 256 → getD (boardBytes b) k 0 ≡ getD first k 0
   in-first k h = in-second k (omega arith) ∙ List·getD-append first (b .places) 0 k (omega arith)
 
-  pub read-back : boardIn (boardBytes b) ≡ b
+  read-back : boardIn (boardBytes b) ≡ b
   unfolding boardIn boardBytes
   read-back =
       λ t.

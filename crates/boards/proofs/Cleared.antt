@@ -19,7 +19,7 @@ use Rattle.boards.specs.Filled.{clearByte}
 abbrev pub clearBytes : List ℕ
 clearBytes = boardBytes (boardOf nothingListed)
 
-pub clear-length : length clearBytes ≡ 576
+clear-length : length clearBytes ≡ 576
 unfolding boardBytes boardOf tableOf
 clear-length = refl
 

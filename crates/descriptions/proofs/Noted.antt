@@ -165,7 +165,7 @@ module _ (d : Description) (x : Item) where
   full-is = ⊎-elim (λ (t : isHost x ≡ true). rw t) (λ (f : isHost x ≡ false). rw f) (decide (isHost x))
 
   -- the faults by what the items before say are those of the rules
-  pub fault-is : faultOf x (beforeIn d x) ≡ firstOf Accepted (itemTable d x)
+  fault-is : faultOf x (beforeIn d x) ≡ firstOf Accepted (itemTable d x)
   unfolding faultOf beforeIn itemTable firstOf
   fault-is = rw full-is
 

@@ -5,13 +5,13 @@ use native.Mathlib.Numerals.{add-one}
 use native.Mathlib.Omega.{arith}
 use mathlib.Core.Path.{_≡_, refl, sym, ap, _∙_}
 use mathlib.Core.Bool.{Bool, true, false, cond, not, _||_}
-use mathlib.Core.List.{List, [], _∷_}
+use mathlib.Core.List.{List, _∷_}
 use mathlib.Core.Logic.{⊎-elim}
 use lib.ListN.{length, take, drop}
 use lib.Dec.{eqb}
 use borrow.Author.Tests.{eqb-true, ne-eqb}
 use Rattle.rules.specs.declared.Verdict.{Verdict}
-use Rattle.rules.specs.declared.Verdict.the-variants.{Accepted, A1, A2, A3, A4, A5, A6, A7, A8}
+use Rattle.rules.specs.declared.Verdict.the-variants.{Accepted, A1, A2, A5, A6, A7, A8}
 use Rattle.rules.specs.Table.{firstOf, anyOf}
 use Rattle.rules.specs.Bytes.{u16At}
 use Rattle.rules.specs.Board.{Board, boardHost, activeHost, onBoard}

@@ -33,7 +33,7 @@ use Rattle.access.specs.Memory.{listedIn, entriesIn, someList, setupIn, keptSet
 use Rattle.access.proofs.Kept.{listed-some}
 use Rattle.loading.specs.Loaded.{accessAfter}
 use Rattle.loading.proofs.Offers.{setup-after}
-use Rattle.records.specs.Memory.{recordAt, recordsIn, stateIn, kept, viewIn, withRecord}
+use Rattle.records.specs.Memory.{recordAt, recordsIn, stateIn, kept, viewIn}
 use Rattle.records.proofs.LentMemory.{record-length, record-same, store-same, records-store, view-in}
 use Rattle.operations.specs.declared.Decision.{Decision}
 use Rattle.operations.specs.Operation.{asked, rowIn, memoryAfter, decisionOn}

@@ -2,12 +2,12 @@
 -- all, and of half the cluster it does not: what others send about the other half changes the chosen one's record. Assumes nothing.
 use Prim.Native.Nat.{ℕ}
 use mathlib.Core.Path.{_≡_, refl, sym, ap, _∙_}
-use mathlib.Core.Bool.{true, false}
+use mathlib.Core.Bool.{true}
 use mathlib.Core.List.{List, [], _∷_}
 use native.Mathlib.Omega.{arith}
 use Rattle.rules.specs.declared.Record.{Record}
-use Rattle.rules.specs.Table.{firstOf, anyOf, allOf, placeOf, allFrom, tableOf}
-use Rattle.rules.specs.Board.{Board, boardHost, activeHost, rowOf, onBoard, classAt, classOf, homeAt, homeOf, shareControl, maskOf}
+use Rattle.rules.specs.Table.{firstOf, anyOf, allOf, placeOf, tableOf}
+use Rattle.rules.specs.Board.{Board, boardHost, activeHost, rowOf, onBoard, classAt, classOf, homeAt, maskOf}
 use Rattle.rules.specs.Description.{ourDescription, listsProcessor, markIn, rowIn, classIn, sharedCluster, sharedIn, homeIn, boardOf, ours}
 use Rattle.rules.specs.Verdict.{accepted}
 use Rattle.rules.specs.AccessList.{noEntry, parts, partsFrom, namedIn, entryTable, entriesTable, listTable, verdictOf, entryIn, withPart, withParts, noEntries, entriesOf, hasEntry, isMaster, isSecondary, permitted}

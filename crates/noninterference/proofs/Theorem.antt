@@ -92,7 +92,7 @@ module _ (b : Board) (bytes chosen : List ℕ) (ok : accepted (verdictOf b false
   loaded-ready named whole =
       subst⁻¹ (λ (s : State). Ready s chosen) loaded-is (record { something = refl; named = named; whole = whole })
 
-  -- on any board that a description can give
+  -- on any good board
   pub loaded-on : Good b → allOf (namedIn (parts bytes)) chosen ≡ true → clustersWhole b chosen ≡ true
       → Noninterference (afterOffer (fresh b) (list bytes)) chosen
   unfolding next
@@ -143,7 +143,7 @@ unfolding afterOffer verdictTo taken fresh listed
 described-is description ok = cond-true _ _ ok
 
 -- what the list names is on it
-named-all : (b : Board) (bytes chosen : List ℕ) → accepted (verdictOf b false bytes) ≡ true → allOf (namedIn (parts bytes)) chosen ≡ true
+pub named-all : (b : Board) (bytes chosen : List ℕ) → accepted (verdictOf b false bytes) ≡ true → allOf (namedIn (parts bytes)) chosen ≡ true
     → allOf (onBoard b) chosen ≡ true
 named-all b bytes chosen ok named =
     allOf-all (onBoard b) chosen (λ p chose. named-on b bytes p ok (allOf-member (namedIn (parts bytes)) chosen p named chose))

@@ -35,8 +35,7 @@ fn play(
     let mut used = 0;
     let mut stand = count;
     loop {
-        let next = next_field(input, at, stand, output, used);
-        match next {
+        match next_field(input, at, stand, output, used) {
             Next::Over(progress) => return progress,
             Next::Field(tag, end, place) => {
                 let start = at + 3;

@@ -6,7 +6,7 @@ use mathlib.Core.Bool.{Bool, true, false, cond, not, _||_, or-false}
 use mathlib.Core.List.{List, [], _∷_, map}
 use mathlib.Core.Logic.{⊎-elim}
 use native.Mathlib.Omega.{arith}
-use lib.ListN.{length, length-append}
+use lib.ListN.{length, getD, length-append}
 use lib.Dec.{eqb}
 use borrow.Author.Tests.{leb-false}
 use Rattle.rules.specs.declared.Item.{Item}
@@ -15,7 +15,7 @@ use Rattle.rules.specs.Table.{_gives_, firstOf, anyOf, tableOf}
 use Rattle.rules.specs.Verdict.{accepted}
 use Rattle.rules.specs.Board.{rows, boardHost, activeHost, secureHost, onBoard}
 use Rattle.rules.specs.Description.{Host, Description, nothingListed, ourDescription, bodySize, fieldGood, noItem, itemIn, fieldSize, itemsFrom, itemsIn, isHost, listsHost, listsProcessor, repeats, otherClass, isFull, itemTable, withItem, itemsTable, descriptionTable, boardVerdict, withItems, descriptionIn, markIn, boardOf, described, ours, ourBytes}
-use Rattle.rules.proofs.Tests.{decide, cond-true, cond-false, cleared, passed}
+use Rattle.rules.proofs.Tests.{decide, cleared, passed}
 use Rattle.rules.proofs.Tables.{table-here, table-past}
 use Rattle.rules.proofs.Rows.{listed-on}
 
@@ -61,6 +61,11 @@ pub host-rule : (d : Description) (h : ℕ) → h < 256 → boardHost (boardOf d
 unfolding boardHost boardOf markIn listsHost
 host-rule d h byte =
     ap (λ (n : ℕ). eqb h 0 || not (eqb n 0)) (table-here (markIn d) 0 256 h byte) ∙ ap (λ (x : Bool). eqb h 0 || x) (mark-listed (d .hosts) h)
+
+-- a host's byte is its mark
+pub mark-rule : (d : Description) (h : ℕ) → h < 256 → getD (boardOf d .hosts) h 0 ≡ markIn d h
+unfolding boardOf
+mark-rule d h byte = table-here (markIn d) 0 256 h byte
 
 pub host-past : (d : Description) (h : ℕ) → 256 ≤ h → boardHost (boardOf d) h ≡ eqb h 0
 unfolding boardHost boardOf

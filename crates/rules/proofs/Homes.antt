@@ -94,6 +94,13 @@ module _ (d : Description) (row : ℕ) (h : row < rows) where
   unfolding classAt boardOf
   class-told = ap (λ (n : ℕ). n % 2) (table-here (classIn d) 0 rows row h)
 
+-- the class of a processor on the board is that of the description
+pub class-rule : (d : Description) (p : ℕ) → onBoard (boardOf d) p ≡ true → classOf (boardOf d) p ≡ classIn d (rowIn d p) % 2
+unfolding classOf
+class-rule d p on =
+    let at = placed d p on in
+    class-told d (rowOf (boardOf d) p) (at .below) ∙ ap (λ (n : ℕ). classIn d n % 2) (at .row ∙ sym (at .in-list))
+
 -- a processor that has a cluster's word is ARMv8
 shared-class : (xs : List Processor) (row : ℕ) → eqb (getD (clusters xs) row 0) 0 ≡ false → getD (map (λ (x : Processor). x .class) xs) row 0 ≡ armv8
 unfolding sharedCluster

@@ -8,7 +8,7 @@ use lib.ListN.{getD}
 use lib.Dec.{eqb, ltb}
 
 pub record Board : Type 0 where
-  -- by host number: 0 for none, 1 for a host that is not secure, 2 for a secure one
+  -- by host number: 0 for none, 2 for a secure host, 1 and any other number for one that is not secure
   pub hosts : List ℕ
   -- by processor number: its row; a number that is no row is the mark for none
   pub places : List ℕ
@@ -41,7 +41,7 @@ activeHost b h = not (eqb h 0) && boardHost b h
 
 -- h is a secure host
 unfoldable pub secureHost : Board → ℕ → Bool
-secureHost b h = eqb (getD (b .hosts) h 0) 2
+secureHost b h = not (eqb h 0) && eqb (getD (b .hosts) h 0) 2
 
 -- the row of processor p, or the mark for none
 unfoldable pub rowOf : Board → ℕ → ℕ
@@ -59,7 +59,7 @@ classAt b row = getD (b .classes) row r5 % 2
 unfoldable pub classOf : Board → ℕ → ℕ
 classOf b p = classAt b (rowOf b p)
 
--- the home of the control word of the processor at a row: any number there is a row
+-- the home of the control word of the processor at a row: any number there is a row. Where there is no row it is 0, and no rule asks for it
 unfoldable pub homeAt : Board → ℕ → ℕ
 homeAt b row = getD (b .homes) row 0 % rows
 

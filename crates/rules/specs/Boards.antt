@@ -3,7 +3,7 @@
 use Prim.Native.Nat.{ℕ, zero, suc, _+_}
 use mathlib.Core.List.{List, [], _∷_, _++_}
 use lib.ListN.{replicate}
-use Rattle.rules.specs.declared.Outcome.the-variants.{N2, N6, N7, Ok}
+use Rattle.rules.specs.declared.Outcome.the-variants.{N2, N6, N7, N8, Ok}
 use Rattle.rules.specs.declared.Verdict.{Verdict}
 use Rattle.rules.specs.declared.Verdict.the-variants.{Accepted, A1, A5, D1, D2, D3, D4, D5, D6}
 use Rattle.rules.specs.Description.{ourBytes}
@@ -57,7 +57,7 @@ describing bytes v = record { earlier = []; call = offer (board bytes); gives = 
 abbrev pub onThePack : List Call
 onThePack = offer (board packBytes) ∷ offer (list openList) ∷ []
 
--- the sender gets a NAK, and the processor that it names has no record
+-- the sender is no host of the board: it gets a NAK, and the processor that it names stays free
 abbrev pub refusedOn : List Call → ℕ → ℕ → Case
 refusedOn earlier host p =
     record { earlier = earlier; call = request host p; gives = answer N2 0 0 (header 0x00 0xC0 host 0) (heldWith 0 0) }
@@ -134,6 +134,17 @@ boarded =
       earlier = onThePack ++ (request 20 7 ∷ setControl 20 7 0x1 0 ∷ []);
       call = getStatus 20 8;
       gives = answer Ok 0 0 (statusOf 20 8 (recordWith 0 0 0 0)) (recordWith 0 0 0 0);
+    }
+    -- the class is that of the description: 0x100 may be named of an ARMv8 control word, and not of an R5's
+    ∷ record {
+      earlier = onThePack ++ (request 20 40 ∷ []);
+      call = setControl 20 40 0x100 0;
+      gives = answer Ok 0 0 (header 0x01 0xC1 20 2) (recordWith 20 0 0 0x100);
+    }
+    ∷ record {
+      earlier = onThePack ++ (request 20 7 ∷ []);
+      call = setControl 20 7 0x100 0;
+      gives = answer N8 0 0 (header 0x01 0xC1 20 0) (recordWith 20 0 0 0);
     }
     -- the last processor byte
     ∷ record { earlier = onThePack; call = request 21 255; gives = answer Ok 0 0 (header 0x00 0xC0 21 2) (heldWith 21 0) }

@@ -240,7 +240,7 @@ ourBytes =
 
 -- ---- what holds of every such board
 
--- and not of every content of the tables; shown once for any description (`board-good` in proofs/Homes.antt)
+-- shown once for any description (`board-good` in proofs/Homes.antt); it does not hold of every content of the tables
 pub record Good (b : Board) : Type 0 where
   -- rows are one-to-one: two processors of which one is on the board have one row only if they are one
   pub rows-apart : (p r : ℕ) → rowOf b p ≡ rowOf b r → onBoard b r ≡ true → p ≡ r

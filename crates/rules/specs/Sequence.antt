@@ -29,7 +29,7 @@ freeOrPermitted setup p r = isFree r || permittedFor setup p (r .controller)
 
 -- the invariant of every state that calls left, whatever the calls
 pub record Sound (s : State) : Type 0 where
-  -- the board is one that a description gives
+  -- the board is good: rows apart, sharers of one class, homes rows
   pub board-good : Good (s .setup .board)
   -- there is a place for each row's record, and one for each control word
   pub rows-there : length (s .records .own) ≡ rows

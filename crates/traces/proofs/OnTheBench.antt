@@ -1,7 +1,7 @@
 -- The theorem is not empty: the bench list is accepted over memories of zeros, a request of host 3 follows, and both steps meet their
 -- contracts; the theorem applies to it, and to a list that names a cluster. Assumes nothing.
 use Prim.Native.Nat.{ℕ}
-use mathlib.Core.Path.{_≡_, refl, subst⁻¹}
+use mathlib.Core.Path.{refl, subst⁻¹}
 use mathlib.Core.List.{List, [], _∷_, _++_}
 use lib.ListN.{replicate}
 use Rattle.rules.specs.declared.Outcome.the-variants.{Ok}

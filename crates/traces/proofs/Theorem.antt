@@ -9,9 +9,9 @@ use lib.ListN.{replicate}
 use lib.Dec.{eqb}
 use Rattle.rules.specs.declared.Report.{Report}
 use Rattle.rules.specs.declared.Verdict.the-variants.{Accepted}
-use Rattle.rules.specs.Table.{anyOf, allOf, tableOf}
+use Rattle.rules.specs.Table.{anyOf, allOf}
 use Rattle.rules.specs.Board.{Board, rowOf}
-use Rattle.rules.specs.Description.{ours, Good}
+use Rattle.rules.specs.Description.{descriptionIn, boardOf, described, ours, Good}
 use Rattle.rules.specs.Verdict.{accepted}
 use Rattle.rules.specs.AccessList.{parts, namedIn, verdictOf}
 use Rattle.rules.specs.Outcome.{carriedOut}
@@ -21,16 +21,16 @@ use Rattle.rules.specs.Sequence.{run, freeOrPermitted}
 use Rattle.rules.proofs.Tests.{decide, cond-true}
 use Rattle.rules.proofs.Sound.{offer-kept as kept-by-offer, first-accepted}
 use Rattle.noninterference.specs.Statement.{clustersWhole, answers, Noninterference, boardLeft}
-use Rattle.noninterference.proofs.Theorem.{left-sound, loaded-on, no-trace}
+use Rattle.noninterference.proofs.Theorem.{left-sound, loaded-on, listed-clusters, named-all, no-trace}
 use Rattle.board.specs.Memory.{boardIn}
 use Rattle.boards.proofs.Started.{start-read}
 use Rattle.access.specs.Memory.{someList, setupIn, keptSetup}
 use Rattle.loading.proofs.Offers.{verdict-told}
-use Rattle.records.specs.Memory.{ownAt, controlAt, recordAt, recordsIn, stateIn, kept}
+use Rattle.records.specs.Memory.{recordAt, recordsIn, stateIn, kept}
 use Rattle.records.proofs.LentMemory.{zeros-fresh}
 use Rattle.manager.specs.Calls.{ListCall}
 use Rattle.traces.specs.Trace.{Memories, started, Step, listStep, messageStep, beforeOf, afterOf, callOf, Meets, Trace, step, endOf, callsOf, Loaded}
-use Rattle.traces.specs.Statement.{setupOf, given, OfTheCode}
+use Rattle.traces.specs.Statement.{setupOf, given, OfTheCode, OnEveryDescription}
 use Rattle.traces.proofs.Kept.{record-kept, verdict-kept}
 use Rattle.traces.proofs.Steps.{Holds, held-by, answer-told, step-holds, trace-holds, trace-given, trace-first, trace-then}
 
@@ -67,7 +67,7 @@ module _ (bytes : List ℕ) (before m : Memories) (s : State) (holds : Holds bef
       ∙ verdict-told (boardIn (before .board)) (before .access) bytes (recordsIn (before .records))
       ∙ sym (meets .verdict))
 
--- memories that hold the state which the list leaves on a fresh board, one that a description can give
+-- memories that hold the state which the list leaves on a fresh and good board
 pub record Begun (b : Board) (bytes : List ℕ) (m : Memories) : Type 0 where
   pub on-board : Good b
   pub good : accepted (verdictOf b false bytes) ≡ true
@@ -187,3 +187,9 @@ of-the-code b bytes chosen named whole =
           (last-told b bytes chosen named whole loaded steps lent before after report held (trace-first steps last trace) (trace-then steps last trace))
           ∙ by-rules b bytes chosen named whole loaded .outsider-refused (callsOf steps) (queryOf lent) about out;
     }
+
+pub on-every-description : OnEveryDescription
+unfolding described
+on-every-description description bytes chosen ok named whole =
+    let d = descriptionIn description in
+    of-the-code (boardOf d) bytes chosen named (listed-clusters d chosen (named-all (boardOf d) bytes chosen ok named) whole)

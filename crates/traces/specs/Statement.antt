@@ -9,12 +9,14 @@ use lib.Dec.{eqb}
 use Rattle.rules.specs.declared.Report.{Report}
 use Rattle.rules.specs.Table.{anyOf, allOf}
 use Rattle.rules.specs.Board.{Board, rowOf}
-use Rattle.rules.specs.AccessList.{parts, namedIn}
+use Rattle.rules.specs.Verdict.{accepted}
+use Rattle.rules.specs.Description.{descriptionIn, described}
+use Rattle.rules.specs.AccessList.{parts, namedIn, verdictOf}
 use Rattle.rules.specs.Outcome.{carriedOut}
 use Rattle.rules.specs.State.{Setup, fresh}
 use Rattle.rules.specs.Call.{list, afterOffer, Answer, Lent, queryOf}
 use Rattle.rules.specs.Sequence.{freeOrPermitted}
-use Rattle.noninterference.specs.Statement.{clustersWhole, insider, aboutChosen, picked, picks}
+use Rattle.noninterference.specs.Statement.{clustersWhole, clustersListed, insider, aboutChosen, picked, picks}
 use Rattle.records.specs.Memory.{recordAt}
 use Rattle.traces.specs.Trace.{Memories, Step, boardStep, listStep, messageStep, Trace, endOf, callsOf, Loaded}
 
@@ -68,3 +70,13 @@ OfTheCode =
     → allOf (namedIn (parts bytes)) chosen ≡ true
     → clustersWhole b chosen ≡ true
     → CodeNoninterference b bytes chosen
+
+-- the same in the words of a description: any processors that used entries of a list name which its board accepts, and that hold each of its ARMv8
+-- clusters whole or not at all
+abbrev pub OnEveryDescription : Type 0
+OnEveryDescription =
+    (description bytes chosen : List ℕ)
+    → accepted (verdictOf (described description) false bytes) ≡ true
+    → allOf (namedIn (parts bytes)) chosen ≡ true
+    → clustersListed (descriptionIn description) chosen ≡ true
+    → CodeNoninterference (described description) bytes chosen

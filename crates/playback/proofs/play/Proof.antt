@@ -50,8 +50,8 @@ loop-holds c = (search needs, search needs, search needs, λ _. refl, start)
 next-field-requires : tie.Need-next-field-requires Inv-loop μ-loop
 next-field-requires c κs = search needs
 
-enum-known-next : tie.Need-enum-known-next Inv-loop μ-loop
-enum-known-next c = search needs
+enum-known-progress : tie.Need-enum-known-progress Inv-loop μ-loop
+enum-known-progress c = search needs
 
 same-length : tie.Need-same-length Inv-loop μ-loop
 same-length c = search needs
@@ -60,46 +60,46 @@ returns : tie.Need-returns Inv-loop μ-loop
 returns c =
     let l = c .before .before .before .before .before .loop in
     let input = now (c .before .before .before .before .before .before .before .before .args .input) in
-    let told = comes-end _ _ _ _ _ _ _ (c .before .next .given .1) (c .before .before .before .next-field .ensures) in
+    let told = comes-end _ _ _ _ _ _ _ (c .before .progress .given .1) (c .before .before .before .next-field .ensures) in
     (omega (arith, told .place), (reached-same _ _ _ _ _ _ _ _ (l .inv .4) _ _ (told .place) (told .stand), (λ none. nothing-left input (l .output) (l .at) (l .used) (l .inv .2) (l .inv .3) (sym (told .place) ∙ none) (told .none), λ on. ap (λ (k : ℕ). waits (foundAt input k)) (told .place) ∙ told .more on)))
 
-enum-known-next-2 : tie.Need-enum-known-next-2 Inv-loop μ-loop
-enum-known-next-2 c = search needs
+enum-known-tag : tie.Need-enum-known-tag Inv-loop μ-loop
+enum-known-tag c = search needs
 
 add-start : tie.Need-add-start Inv-loop μ-loop
 add-start c =
     let l = c .before .before .before .before .before .loop in
-    let comes = comes-field _ _ _ _ _ _ _ _ _ (c .before .next2 .given .1) (c .before .before .before .next-field .ensures) in
+    let comes = comes-field _ _ _ _ _ _ _ _ _ (c .before .tag .given .1) (c .before .before .before .next-field .ensures) in
     omega (arith, comes .behind, comes .within)
 
 sub-play-field : tie.Need-sub-play-field Inv-loop μ-loop
 sub-play-field c =
     let l = c .before .before .before .before .before .before .before .before .before .loop in
-    let comes = comes-field _ _ _ _ _ _ _ _ _ (c .before .before .before .before .before .next2 .given .1) (c .before .before .before .before .before .before .before .next-field .ensures) in
+    let comes = comes-field _ _ _ _ _ _ _ _ _ (c .before .before .before .before .before .tag .given .1) (c .before .before .before .before .before .before .before .next-field .ensures) in
     omega (arith, comes .behind)
 
 part-play-field-start : tie.Need-part-play-field-start Inv-loop μ-loop
 part-play-field-start c =
     let l = c .before .before .before .before .before .before .before .before .before .loop in
-    let comes = comes-field _ _ _ _ _ _ _ _ _ (c .before .before .before .before .before .next2 .given .1) (c .before .before .before .before .before .before .before .next-field .ensures) in
+    let comes = comes-field _ _ _ _ _ _ _ _ _ (c .before .before .before .before .before .tag .given .1) (c .before .before .before .before .before .before .before .next-field .ensures) in
     omega (arith, comes .behind)
 
 part-play-field-end : tie.Need-part-play-field-end Inv-loop μ-loop
 part-play-field-end c =
     let l = c .before .before .before .before .before .before .before .before .before .loop in
-    let comes = comes-field _ _ _ _ _ _ _ _ _ (c .before .before .before .before .before .next2 .given .1) (c .before .before .before .before .before .before .before .next-field .ensures) in
+    let comes = comes-field _ _ _ _ _ _ _ _ _ (c .before .before .before .before .before .tag .given .1) (c .before .before .before .before .before .before .before .next-field .ensures) in
     omega (arith, comes .within)
 
 sub-play-field-2 : tie.Need-sub-play-field-2 Inv-loop μ-loop
 sub-play-field-2 c =
     let l = c .before .before .before .before .before .before .before .before .before .before .loop in
-    let comes = comes-field _ _ _ _ _ _ _ _ _ (c .before .before .before .before .before .before .next2 .given .1) (c .before .before .before .before .before .before .before .before .next-field .ensures) in
+    let comes = comes-field _ _ _ _ _ _ _ _ _ (c .before .before .before .before .before .before .tag .given .1) (c .before .before .before .before .before .before .before .before .next-field .ensures) in
     omega (arith, comes .fits (l .inv .2))
 
 part-play-field-start-2 : tie.Need-part-play-field-start-2 Inv-loop μ-loop
 part-play-field-start-2 c =
     let l = c .before .before .before .before .before .before .before .before .before .before .loop in
-    let comes = comes-field _ _ _ _ _ _ _ _ _ (c .before .before .before .before .before .before .next2 .given .1) (c .before .before .before .before .before .before .before .before .next-field .ensures) in
+    let comes = comes-field _ _ _ _ _ _ _ _ _ (c .before .before .before .before .before .before .tag .given .1) (c .before .before .before .before .before .before .before .before .next-field .ensures) in
     omega (arith, comes .fits (l .inv .2))
 
 part-play-field-end-2 : tie.Need-part-play-field-end-2 Inv-loop μ-loop
@@ -111,21 +111,21 @@ play-field-requires c κs = search needs
 add-used : tie.Need-add-used Inv-loop μ-loop
 add-used c =
     let l = c .before .before .before .before .before .before .before .before .before .before .before .before .before .before .before .loop in
-    let comes = comes-field _ _ _ _ _ _ _ _ _ (c .before .before .before .before .before .before .before .before .before .before .before .next2 .given .1) (c .before .before .before .before .before .before .before .before .before .before .before .before .before .next-field .ensures) in
+    let comes = comes-field _ _ _ _ _ _ _ _ _ (c .before .before .before .before .before .before .before .before .before .before .before .tag .given .1) (c .before .before .before .before .before .before .before .before .before .before .before .before .before .next-field .ensures) in
     omega (arith, comes .fits (l .inv .2), c .before .before .before .play-field .ensures .0, l .inv .1, c .before .before .before .before .before .before .before .before .before .before .before .before .before .before .before .before .before .before .good .1 .1 .1 .1 .1 .1 .0 .0)
 
 loop-less : tie.Need-loop-less Inv-loop μ-loop
 loop-less c =
     let l = c .before .before .before .before .before .before .before .before .before .before .before .before .before .before .before .loop in
-    let comes = comes-field _ _ _ _ _ _ _ _ _ (c .before .before .before .before .before .before .before .before .before .before .before .next2 .given .1) (c .before .before .before .before .before .before .before .before .before .before .before .before .before .next-field .ensures) in
+    let comes = comes-field _ _ _ _ _ _ _ _ _ (c .before .before .before .before .before .before .before .before .before .before .before .tag .given .1) (c .before .before .before .before .before .before .before .before .before .before .before .before .before .next-field .ensures) in
     omega (arith, comes .behind, comes .within)
 
 loop-again : tie.Need-loop-again Inv-loop μ-loop
 loop-again c =
     let l = c .before .before .before .before .before .before .before .before .before .before .before .before .before .before .before .loop in
-    let comes = comes-field _ _ _ _ _ _ _ _ _ (c .before .before .before .before .before .before .before .before .before .before .before .next2 .given .1) (c .before .before .before .before .before .before .before .before .before .before .before .before .before .next-field .ensures) in
+    let comes = comes-field _ _ _ _ _ _ _ _ _ (c .before .before .before .before .before .before .before .before .before .before .before .tag .given .1) (c .before .before .before .before .before .before .before .before .before .before .before .before .before .next-field .ensures) in
     let played = c .before .before .before .play-field in
-    let place = c .before .before .before .before .before .before .before .before .before .before .before .next2 .given .0 .1 .1 .0 in
+    let place = c .before .before .before .before .before .before .before .before .before .before .before .tag .given .0 .1 .1 .0 in
     let room = comes .fits (l .inv .2) in
     let size = same-len-mid {X = ℕ} place (length (l .output) - place) (l .output) (played .last .1 .1 .1 .1 .1 .1 .1 .0) (played .kept .1 .1 .1 .1 .1 .1 .1 .0) in
     (comes .within, size ∙ l .inv .1, subst⁻¹ (λ (n : ℕ). 96 ≤ n) size (l .inv .2), λ none. absurd (omega (arith, none, comes .behind)), reached-next _ _ _ _ _ _ _ _ (l .inv .4) _ _ _ _ _ _ _ _ _ _ (comes .whole) (comes .behind) (rest-long (l .output) place room) (played .ensures .1))
@@ -138,10 +138,10 @@ play-spec =
     μ-loop
     loop-holds
     next-field-requires
-    enum-known-next
+    enum-known-progress
     same-length
     returns
-    enum-known-next-2
+    enum-known-tag
     add-start
     sub-play-field
     part-play-field-start
