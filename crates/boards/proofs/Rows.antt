@@ -12,12 +12,12 @@ use lib.Dec.{eqb}
 use borrow.Author.Tests.{eq-eqb, ne-eqb, not-true}
 use Rattle.rules.specs.declared.Item.{Item}
 use Rattle.rules.specs.Table.{anyOf, placeOf}
-use Rattle.rules.specs.Description.{Processor, Description, nothingListed, isHost, withItem, sharedCluster, homeIn}
+use Rattle.rules.specs.Description.{Processor, Description, nothingListed, isHost, withItem, sharedCluster, homeIn, itemProcessor}
 use Rattle.rules.proofs.Tests.{decide, cond-true, cond-false, and-left, and-right}
 use Rattle.items.specs.Cursor.{itemNo, listedBefore}
 use Rattle.items.proofs.Cursors.{listed-next}
 use Rattle.descriptions.proofs.Noted.{any-last, length-last}
-use Rattle.boards.specs.Filled.{processorOf, sharesWord, rowAfter}
+use Rattle.boards.specs.Filled.{sharesWord, rowAfter}
 use Rattle.boards.proofs.Lists.{place-first}
 use Rattle.boards.proofs.Steps.{is-processor, home-here}
 
@@ -32,7 +32,7 @@ module _ (d : Description) (x : Item) where
   unfolding withItem
   listed-host t = ap (λ (e : Description). e .processors) (cond-true _ _ t)
 
-  listed-processor : isHost x ≡ false → withItem d x .processors ≡ d .processors ++ (processorOf x ∷ [])
+  listed-processor : isHost x ≡ false → withItem d x .processors ≡ d .processors ++ (itemProcessor x ∷ [])
   unfolding withItem
   listed-processor f = ap (λ (e : Description). e .processors) (cond-false _ _ f)
 
@@ -41,7 +41,7 @@ module _ (d : Description) (x : Item) where
   listed-more =
       ⊎-elim
       (λ t. ([], listed-host t ∙ sym (append-nil (d .processors))))
-      (λ f. (processorOf x ∷ [], listed-processor f))
+      (λ f. (itemProcessor x ∷ [], listed-processor f))
       (decide (isHost x))
 
   row-count : rowAfter (length (d .processors)) x ≡ length (withItem d x .processors)
@@ -50,7 +50,7 @@ module _ (d : Description) (x : Item) where
       ⊎-elim
       (λ (t : isHost x ≡ true). cond-true _ _ t ∙ ap length (sym (listed-host t)))
       (λ (f : isHost x ≡ false).
-      cond-false _ _ f ∙ sym (length-last (d .processors) (processorOf x)) ∙ ap length (sym (listed-processor f)))
+      cond-false _ _ f ∙ sym (length-last (d .processors) (itemProcessor x)) ∙ ap length (sym (listed-processor f)))
       (decide (isHost x))
 
   -- an item that does not have the cluster's word adds none that does
@@ -62,7 +62,7 @@ module _ (d : Description) (x : Item) where
       (λ (t : isHost x ≡ true). ap (anyOf (hasWord c)) (listed-host t) ∙ none)
       (λ (f : isHost x ≡ false).
       ap (anyOf (hasWord c)) (listed-processor f)
-      ∙ any-last (hasWord c) (d .processors) (processorOf x)
+      ∙ any-last (hasWord c) (d .processors) (itemProcessor x)
       ∙ rw (none, rw f at other))
       (decide (isHost x))
 
@@ -125,7 +125,7 @@ module _ (bytes : List ℕ) where
       pub word-found : (n : ℕ) (last : Processor) → k < n → sharesWord x c ≡ true → placeOf (hasWord c) (before n ++ (last ∷ [])) ≡ row
       unfolding sharesWord
       word-found n last h shares =
-          let q = processorOf (itemNo bytes k) in
+          let q = itemProcessor (itemNo bytes k) in
           let told : (not (isHost (itemNo bytes k)) && hasWord c q) ≡ true = ap (λ (y : Item). sharesWord y c) (sym is) ∙ shares in
           let some = before-later (k + 1) n (omega arith) in
           let here : before (k + 1) ≡ before k ++ (q ∷ []) =
@@ -144,25 +144,25 @@ module _ (bytes : List ℕ) where
 -- ---- the home of a new processor
 
 module _ (d : Description) (x : Item) {row c : ℕ} (processor : isHost x ≡ false) (rowed : row ≡ length (d .processors))
-    (shared : c ≡ sharedCluster (processorOf x)) where
-  home-by : homeIn (withItem d x) row ≡ cond (eqb c 0) row (placeOf (hasWord c) (d .processors ++ (processorOf x ∷ [])))
+    (shared : c ≡ sharedCluster (itemProcessor x)) where
+  home-by : homeIn (withItem d x) row ≡ cond (eqb c 0) row (placeOf (hasWord c) (d .processors ++ (itemProcessor x ∷ [])))
   home-by =
       ap (λ (e : Description). homeIn e row) (is-processor d x processor)
-      ∙ ap (homeIn (record { hosts = d .hosts; processors = d .processors ++ (processorOf x ∷ []) })) rowed
+      ∙ ap (homeIn (record { hosts = d .hosts; processors = d .processors ++ (itemProcessor x ∷ []) })) rowed
       ∙ home-here d x
-      ∙ ap (λ (n : ℕ). cond (eqb n 0) (length (d .processors)) (placeOf (hasWord n) (d .processors ++ (processorOf x ∷ [])))) (sym shared)
-      ∙ ap (λ (n : ℕ). cond (eqb c 0) n (placeOf (hasWord c) (d .processors ++ (processorOf x ∷ [])))) (sym rowed)
+      ∙ ap (λ (n : ℕ). cond (eqb n 0) (length (d .processors)) (placeOf (hasWord n) (d .processors ++ (itemProcessor x ∷ [])))) (sym shared)
+      ∙ ap (λ (n : ℕ). cond (eqb c 0) n (placeOf (hasWord c) (d .processors ++ (itemProcessor x ∷ [])))) (sym rowed)
 
   -- alone it has its own word
   pub home-alone : c ≡ 0 → row ≡ homeIn (withItem d x) row
   home-alone none = sym (home-by ∙ cond-true _ _ (eq-eqb c 0 none))
 
   -- else that of the first of its cluster
-  pub home-first : {home : ℕ} → (c ≡ 0 → ⊥) → placeOf (hasWord c) (d .processors ++ (processorOf x ∷ [])) ≡ home
+  pub home-first : {home : ℕ} → (c ≡ 0 → ⊥) → placeOf (hasWord c) (d .processors ++ (itemProcessor x ∷ [])) ≡ home
       → home ≡ homeIn (withItem d x) row
   home-first some found = sym (home-by ∙ cond-false _ _ (ne-eqb c 0 some) ∙ found)
 
   -- which it is itself where none before has the word
   pub home-own : (c ≡ 0 → ⊥) → anyOf (hasWord c) (d .processors) ≡ false → row ≡ homeIn (withItem d x) row
   home-own some none =
-      home-first some (place-first (hasWord c) (d .processors) (processorOf x) [] none (eq-eqb c _ shared) ∙ sym rowed)
+      home-first some (place-first (hasWord c) (d .processors) (itemProcessor x) [] none (eq-eqb c _ shared) ∙ sym rowed)

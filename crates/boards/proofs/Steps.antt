@@ -11,12 +11,12 @@ use borrow.Author.Tests.{eq-eqb, ne-eqb, leb-false}
 use Rattle.rules.specs.declared.Item.{Item}
 use Rattle.rules.specs.Table.{_gives_, firstOf, anyOf, placeOf, tableOf}
 use Rattle.rules.specs.Board.{rows}
-use Rattle.rules.specs.Description.{Host, Processor, Description, isHost, numbered, listsHost, listsProcessor, repeats, isFull, withItem, markIn, rowIn, classIn, sharedCluster, sharedIn, homeIn, boardOf}
+use Rattle.rules.specs.Description.{Host, Processor, Description, isHost, numbered, listsHost, listsProcessor, repeats, isFull, withItem, markIn, rowIn, classIn, sharedCluster, sharedIn, homeIn, boardOf, itemProcessor, itemHost}
 use Rattle.rules.proofs.Tests.{decide, clash, or-left, or-right, or-false-left, cond-true, cond-false}
 use Rattle.rules.proofs.Tables.{table-length}
 use Rattle.board.specs.Memory.{boardBytes}
 use Rattle.descriptions.proofs.Noted.{any-last, or-false}
-use Rattle.boards.specs.Filled.{processorOf, putItem}
+use Rattle.boards.specs.Filled.{putItem}
 use Rattle.boards.proofs.Lists.{place-kept, place-first, getD-last, getD-before, table-put}
 use Rattle.boards.proofs.Stores.{store-host, store-processor}
 
@@ -51,10 +51,10 @@ mark-number (suc (suc m)) h = absurd (omega arith)
 
 module _ (d : Description) (x : Item) where
   abbrev withHost : Description
-  withHost = record { hosts = d .hosts ++ (record { number = x .number; secure = eqb (x .mark) 1 } ∷ []); processors = d .processors }
+  withHost = record { hosts = d .hosts ++ (itemHost x ∷ []); processors = d .processors }
 
   abbrev withProcessor : Description
-  withProcessor = record { hosts = d .hosts; processors = d .processors ++ (processorOf x ∷ []) }
+  withProcessor = record { hosts = d .hosts; processors = d .processors ++ (itemProcessor x ∷ []) }
 
   mark-here : listsHost d (x .number) ≡ false → x .mark ≤ 1 → markIn withHost (x .number) ≡ 1 + x .mark
   unfolding markIn listsHost
@@ -93,39 +93,39 @@ module _ (d : Description) (x : Item) where
   unfolding rowIn listsProcessor
   row-here new =
       cond-true _ _
-      (any-last (numbered (x .number)) (d .processors) (processorOf x)
+      (any-last (numbered (x .number)) (d .processors) (itemProcessor x)
       ∙ or-right (anyOf (numbered (x .number)) (d .processors)) (eq-eqb (x .number) (x .number) refl))
-      ∙ place-first (numbered (x .number)) (d .processors) (processorOf x) [] new (eq-eqb (x .number) (x .number) refl)
+      ∙ place-first (numbered (x .number)) (d .processors) (itemProcessor x) [] new (eq-eqb (x .number) (x .number) refl)
 
   row-there : (p : ℕ) → (p ≡ x .number → ⊥) → rowIn (withProcessor d x) p ≡ rowIn d p
   unfolding rowIn listsProcessor
   row-there p other =
-      let same : anyOf (numbered p) (d .processors ++ (processorOf x ∷ [])) ≡ anyOf (numbered p) (d .processors) =
-      any-last (numbered p) (d .processors) (processorOf x)
+      let same : anyOf (numbered p) (d .processors ++ (itemProcessor x ∷ [])) ≡ anyOf (numbered p) (d .processors) =
+      any-last (numbered p) (d .processors) (itemProcessor x)
       ∙ ap (λ (b : Bool). anyOf (numbered p) (d .processors) || b) (ne-eqb p (x .number) other)
       ∙ or-false _
       in
       ⊎-elim
       (λ (t : anyOf (numbered p) (d .processors) ≡ true).
-      rw (same, t) (place-kept (numbered p) (d .processors) (processorOf x ∷ []) t))
+      rw (same, t) (place-kept (numbered p) (d .processors) (itemProcessor x ∷ []) t))
       (λ (f : anyOf (numbered p) (d .processors) ≡ false). rw (same, f))
       (decide (anyOf (numbered p) (d .processors)))
 
   class-here : classIn (withProcessor d x) (length (d .processors)) ≡ x .mark
   unfolding classIn
-  class-here = getD-last (λ (y : Processor). y .class) 0 (d .processors) (processorOf x)
+  class-here = getD-last (λ (y : Processor). y .class) 0 (d .processors) (itemProcessor x)
 
   class-there : (row : ℕ) → (row ≡ length (d .processors) → ⊥) → classIn (withProcessor d x) row ≡ classIn d row
   unfolding classIn
-  class-there row other = getD-before (λ (y : Processor). y .class) 0 (d .processors) (processorOf x) row other
+  class-there row other = getD-before (λ (y : Processor). y .class) 0 (d .processors) (itemProcessor x) row other
 
-  shared-here : sharedIn (withProcessor d x) (length (d .processors)) ≡ sharedCluster (processorOf x)
+  shared-here : sharedIn (withProcessor d x) (length (d .processors)) ≡ sharedCluster (itemProcessor x)
   unfolding sharedIn
-  shared-here = getD-last sharedCluster 0 (d .processors) (processorOf x)
+  shared-here = getD-last sharedCluster 0 (d .processors) (itemProcessor x)
 
   shared-there : (row : ℕ) → (row ≡ length (d .processors) → ⊥) → sharedIn (withProcessor d x) row ≡ sharedIn d row
   unfolding sharedIn
-  shared-there row other = getD-before sharedCluster 0 (d .processors) (processorOf x) row other
+  shared-there row other = getD-before sharedCluster 0 (d .processors) (itemProcessor x) row other
 
   -- the home of a row, by the cluster whose word it has
   abbrev homeBy : List Processor → ℕ → ℕ → ℕ
@@ -134,19 +134,19 @@ module _ (d : Description) (x : Item) where
   home-there : (row : ℕ) → (row ≡ length (d .processors) → ⊥) → homeIn (withProcessor d x) row ≡ homeIn d row
   unfolding homeIn sharedIn
   home-there row other =
-      ap (homeBy (d .processors ++ (processorOf x ∷ [])) row) (shared-there row other)
+      ap (homeBy (d .processors ++ (itemProcessor x ∷ [])) row) (shared-there row other)
       ∙ ⊎-elim
       (λ (alone : eqb (sharedIn d row) 0 ≡ true). rw alone)
       (λ (some : eqb (sharedIn d row) 0 ≡ false).
       rw some
-      (place-kept _ (d .processors) (processorOf x ∷ []) (shared-some (d .processors) row (sharedIn d row) refl some)))
+      (place-kept _ (d .processors) (itemProcessor x ∷ []) (shared-some (d .processors) row (sharedIn d row) refl some)))
       (decide (eqb (sharedIn d row) 0))
 
   -- the home of the new processor's row
   pub home-here : homeIn (withProcessor d x) (length (d .processors))
-      ≡ homeBy (d .processors ++ (processorOf x ∷ [])) (length (d .processors)) (sharedCluster (processorOf x))
+      ≡ homeBy (d .processors ++ (itemProcessor x ∷ [])) (length (d .processors)) (sharedCluster (itemProcessor x))
   unfolding homeIn
-  home-here = ap (homeBy (d .processors ++ (processorOf x ∷ [])) (length (d .processors))) shared-here
+  home-here = ap (homeBy (d .processors ++ (itemProcessor x ∷ [])) (length (d .processors))) shared-here
 
   -- the memory of the board with one processor more
   processor-step : (row : ℕ) → row ≡ length (d .processors) → x .number < 256 → listsProcessor d (x .number) ≡ false → row < rows

@@ -9,7 +9,7 @@ use lib.Dec.{eqb, ltb}
 use Rattle.rules.specs.declared.Item.{Item}
 use Rattle.rules.specs.Verdict.{accepted}
 use Rattle.rules.specs.Board.{rows}
-use Rattle.rules.specs.Description.{Processor, Description, isHost, withItem, boardVerdict, sharedCluster, homeIn, described}
+use Rattle.rules.specs.Description.{Description, isHost, itemProcessor, withItem, boardVerdict, sharedCluster, homeIn, described}
 use Rattle.items.specs.Cursor.{cursorAt, listedBefore}
 use Rattle.board.specs.Memory.{boardBytes, placesPlace, classesPlace, homesPlace}
 
@@ -24,13 +24,9 @@ unfoldable pub clearByte : ℕ → ℕ
 clearByte i =
     cond (ltb i placesPlace) 0 (cond (ltb i classesPlace) rows (cond (ltb i homesPlace) 0 (i - homesPlace)))
 
--- the processor that an item describes
-abbrev pub processorOf : Item → Processor
-processorOf x = record { number = x .number; class = x .mark; cluster = x .cluster }
-
 -- an item is a processor that has the control word of cluster c
 unfoldable pub sharesWord : Item → ℕ → Bool
-sharesWord x c = not (isHost x) && eqb c (sharedCluster (processorOf x))
+sharesWord x c = not (isHost x) && eqb c (sharedCluster (itemProcessor x))
 
 -- the first row behind an item, where `row` is the first behind those before it
 unfoldable pub rowAfter : ℕ → Item → ℕ

@@ -5,10 +5,10 @@ ghost use mathlib.Core.Path.{_≡_};
 ghost use mathlib.Core.Bool.{false};
 ghost use Prim.Native.Nat.{_≤_, _<_};
 ghost use Rattle.rules.specs.declared.Verdict.the-variants.{Accepted};
-ghost use Rattle.rules.specs.Description.{nothingListed, isHost, withItem, sharedCluster, homeIn, boardOf, boardVerdict, described, ours};
+ghost use Rattle.rules.specs.Description.{nothingListed, isHost, withItem, sharedCluster, homeIn, boardOf, boardVerdict, described, ours, itemProcessor};
 ghost use Rattle.board.specs.Memory.{boardBytes};
 ghost use Rattle.items.specs.Cursor.{listedBefore};
-ghost use Rattle.boards.specs.Filled.{Behind, boardAfter, clearByte, sharesWord, rowAfter, processorOf, putItem};
+ghost use Rattle.boards.specs.Filled.{Behind, boardAfter, clearByte, sharesWord, rowAfter, putItem};
 use board::ROWS;
 use descriptions::judge;
 use items::HOST;
@@ -73,7 +73,7 @@ fn clear(board: &mut [u8; 576])
 
 // The cluster whose control word an item's processor has, or 0 for one that has its own.
 fn shared_cluster(item: Item) -> u8
-    ensures { λ r. ⌜ r ≡ sharedCluster (processorOf item) ⌝ }
+    ensures { λ r. ⌜ r ≡ sharedCluster (itemProcessor item) ⌝ }
 {
     if item.mark == ARMV8 {
         return item.cluster;

@@ -28,13 +28,6 @@ module _ {A : Type 0} (test : A → Bool) (x : A) (xs : List A) where
   unfolding placeOf
   place-past f = cond-false 0 (suc (placeOf test xs)) f
 
--- it is at most the length, which stands for none
-place-within : {A : Type 0} (test : A → Bool) (xs : List A) → placeOf test xs ≤ length xs
-unfolding placeOf
-place-within test [] = omega arith
-place-within test (x ∷ xs) =
-    ⊎-elim (λ t. rw t (omega arith)) (λ f. rw f (let h = place-within test xs in omega arith)) (decide (test x))
-
 -- ---- the row of a processor
 
 place-one : (xs : List Processor) (p r : ℕ)

@@ -1,6 +1,6 @@
 -- Document 02, L8, on the bench: worked cases of board descriptions, as one table in the form of `starred`: what each gets, and what is answered on
 -- the board that it leaves. `proofs/Bench.antt` checks it. Assumes nothing.
-use Prim.Native.Nat.{ℕ, zero, suc, _+_}
+use Prim.Native.Nat.{ℕ, zero, suc}
 use mathlib.Core.List.{List, [], _∷_, _++_}
 use lib.ListN.{replicate}
 use Rattle.rules.specs.declared.Outcome.the-variants.{N2, N6, N7, N8, Ok}
@@ -80,16 +80,16 @@ boarded =
     -- D2, and before D4
     ∷ describing (aHost 0 0) D2
     ∷ describing (aProcessor 0 2 0) D2
-    -- D3, and before D4
+    -- D3, and before D4, D5 and D6
     ∷ describing (aHost 9 0 ++ aHost 9 2) D3
     ∷ describing (aProcessor 9 0 0 ++ aProcessor 9 0 0) D3
+    ∷ describing (aProcessor 50 1 4 ++ processorsFrom 1 31 ++ aProcessor 9 0 4) D3
     -- D4, and before D5
     ∷ describing (aHost 9 2) D4
     ∷ describing (aProcessor 8 1 4 ++ aProcessor 9 2 4) D4
     -- D5: an R5 in an ARMv8 cluster, and the other way round; and before D6
     ∷ describing (aProcessor 8 1 4 ++ aProcessor 9 0 4) D5
     ∷ describing (aProcessor 8 0 4 ++ aProcessor 9 1 4) D5
-    ∷ describing (aProcessor 50 1 4 ++ processorsFrom 1 31 ++ aProcessor 9 0 4) D3
     ∷ describing (aProcessor 50 1 4 ++ processorsFrom 1 31 ++ aProcessor 60 0 4) D5
     -- D6: a 65th host, a 33rd processor
     ∷ describing (hostsFrom 1 65) D6

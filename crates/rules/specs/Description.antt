@@ -143,12 +143,19 @@ itemTable d x =
     ∷ (isFull d x gives D6)
     ∷ []
 
+-- the host, and the processor, that an item describes
+abbrev pub itemHost : Item → Host
+itemHost x = record { number = x .number; secure = eqb (x .mark) 1 }
+
+abbrev pub itemProcessor : Item → Processor
+itemProcessor x = record { number = x .number; class = x .mark; cluster = x .cluster }
+
 -- what is listed once an item is read
 unfoldable pub withItem : Description → Item → Description
 withItem d x =
     cond (isHost x)
-    (record { hosts = d .hosts ++ (record { number = x .number; secure = eqb (x .mark) 1 } ∷ []); processors = d .processors })
-    (record { hosts = d .hosts; processors = d .processors ++ (record { number = x .number; class = x .mark; cluster = x .cluster } ∷ []) })
+    (record { hosts = d .hosts ++ (itemHost x ∷ []); processors = d .processors })
+    (record { hosts = d .hosts; processors = d .processors ++ (itemProcessor x ∷ []) })
 
 -- "for each item in turn"; behind a field that is not good nothing counts, since D1 has decided
 unfoldable pub itemsTable : Description → List Item → List (Line Verdict)

@@ -8,9 +8,9 @@ use borrow.Author.Needs.{needs}
 use denote.Ref.{now}
 use lib.ListN.{length}
 use Rattle.rules.specs.Table.{anyOf}
+use Rattle.rules.specs.Description.{itemProcessor}
 use Rattle.items.specs.Cursor.{cursorAt, listedBefore}
 use Rattle.items.proofs.Cursors.{cursor-order, cursor-item, cursor-step}
-use Rattle.boards.specs.Filled.{processorOf}
 use Rattle.boards.proofs.Rows.{hasWord, rows-order, row-start, row-next, word-start, word-next, word-found, home-alone, home-first, home-own}
 use Rattle.boards.proofs.home_of.Statement.{statement}
 use Rattle.boards.proofs.home_of.Tie as tie
@@ -55,7 +55,7 @@ returns-2 c =
     home-first (listedBefore bytes (start .args .count)) (start .args .item) (start .pre .1 .0) (start .pre .0 .free) (shared .shared-cluster .ensures)
     (c .before .before .before .before .before .if1 .left)
     (word-found bytes (l .k) (l .inv .2) (cursor-item bytes (l .k) (l .inv .1) (c .before .before .item-at .ensures))
-    (shared .shared-cluster .result) (l .inv .3) (start .args .count) (processorOf (start .args .item)) (omega arith)
+    (shared .shared-cluster .result) (l .inv .3) (start .args .count) (itemProcessor (start .args .item)) (omega arith)
     (sym (c .before .shares .ensures) ∙ c .if2 .taken))
 
 row-after-requires : tie.Need-row-after-requires Inv-loop μ-loop
