@@ -66,7 +66,7 @@ extern "C" {
 #define POMROZEK_CONTROLS 128
 
 /* The report of a message call, by enum pomrozek_report. */
-#define POMROZEK_REPORT_WORDS 3
+#define POMROZEK_REPORT_WORDS 4
 
 /* The longest answer, and the shortest answer buffer that is not refused (R1). */
 #define POMROZEK_ANSWER_BYTES 29
@@ -118,11 +118,30 @@ enum pomrozek_outcome {
     POMROZEK_OK = 0    /* carried out */
 };
 
-/* The words of a report. Checks and microseconds are 0 but for a wait that ends OK or N9. */
+/*
+ * The words of a report. Checks and microseconds are 0 but for a wait that ends OK or N9. The role is
+ * none but for a request (0xC000) that ends OK or N7.
+ */
 enum pomrozek_report {
-    POMROZEK_CHECKS = 0, /* status words examined */
-    POMROZEK_MICROS = 1, /* microseconds that the wait stands for, at most 65,280 */
-    POMROZEK_WRITTEN = 2 /* answer bytes written: 0, 8 or 29 */
+    POMROZEK_CHECKS = 0,  /* status words examined */
+    POMROZEK_MICROS = 1,  /* microseconds that the wait stands for, at most 65,280 */
+    POMROZEK_WRITTEN = 2, /* answer bytes written: 0, 8 or 29 */
+    POMROZEK_ROLE = 3     /* the sender's role, by enum pomrozek_role */
+};
+
+/*
+ * What the sender of a request is to the processor that it names. A host that is recovery master and
+ * secondary counts as master, and one that is secondary in several places by the lowest. The role is for
+ * the log alone: no byte of an answer depends on it. A request that comes to N7 carries the role that it
+ * is refused with.
+ */
+enum pomrozek_role {
+    POMROZEK_ROLE_NONE = 0,        /* the entry does not name the host */
+    POMROZEK_ROLE_MASTER = 1,      /* recovery master */
+    POMROZEK_ROLE_SECONDARY_0 = 2, /* the entry's first secondary */
+    POMROZEK_ROLE_SECONDARY_1 = 3, /* its second */
+    POMROZEK_ROLE_SECONDARY_2 = 4, /* its third */
+    POMROZEK_ROLE_OPEN = 5         /* the processor has no entry, and so is open to every board host */
 };
 
 /*
@@ -185,8 +204,8 @@ uint32_t pomrozek_list(const uint8_t board[POMROZEK_BOARD_BYTES],
  * answer_len   its length; below 29 gets R1
  * report       written by every call; what it held is not looked at
  *
- * Returns the outcome, by enum pomrozek_outcome. It is for the log: the answer says ACK or NAK
- * alone.
+ * Returns the outcome, by enum pomrozek_outcome. Outcome and role are for the log: the answer says ACK
+ * or NAK alone.
  */
 uint32_t pomrozek_message(const uint8_t board[POMROZEK_BOARD_BYTES],
                           const uint16_t access[POMROZEK_ACCESS_WORDS],

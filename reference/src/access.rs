@@ -1,5 +1,5 @@
-//! The access list: how it is judged (A1 to A8), what accepting it leaves in memory, and who is
-//! permitted for a processor.
+//! The access list: how it is judged (A1 to A8), what accepting it leaves in memory, and which role
+//! a host has for a processor.
 
 use crate::board::{Board, NO_HOST, ROWS};
 use crate::bytes::u16_at;
@@ -58,6 +58,41 @@ pub const LIST_FAULTS: [ListFault; 8] = [
     ListFault::A7,
     ListFault::A8,
 ];
+
+/// What a host is to a processor. The numbers are those of the static library.
+#[derive(Clone, Copy, Debug, PartialEq, Eq)]
+pub enum Role {
+    /// not permitted
+    None = 0,
+    /// also where a secondary place names the host as well
+    RecoveryMaster = 1,
+    Secondary0 = 2,
+    Secondary1 = 3,
+    Secondary2 = 4,
+    /// permitted because the processor has no entry
+    OpenProcessor = 5,
+}
+
+/// Every role, in the order of the numbers.
+pub const ROLES: [Role; 6] = [
+    Role::None,
+    Role::RecoveryMaster,
+    Role::Secondary0,
+    Role::Secondary1,
+    Role::Secondary2,
+    Role::OpenProcessor,
+];
+
+/// The role that each place of an entry gives.
+const PLACE_ROLES: [Role; ENTRY_WORDS] =
+    [Role::RecoveryMaster, Role::Secondary0, Role::Secondary1, Role::Secondary2];
+
+impl Role {
+    /// The number that the static library gives it.
+    pub fn number(self) -> u32 {
+        self as u32
+    }
+}
 
 /// Takes the list, or says the first fault. All of the memory is rewritten by an accepted list and
 /// none of it by a refused one.
@@ -118,18 +153,25 @@ fn read_entry(
     Ok((row, words))
 }
 
-/// Whether `host` is permitted for the processor in `row`.
-pub fn is_permitted(board: &Board, access: &AccessMemory, row: usize, host: u16) -> bool {
-    if has_entry(access, row) {
-        host != NO_HOST && row_words(access, row).contains(&host)
-    } else {
-        board.can_send(host)
+/// The role of `host` for the processor in `row`: that of the first place which names the host. An
+/// unused place names nobody.
+pub fn role_of(board: &Board, access: &AccessMemory, row: usize, host: u16) -> Role {
+    if !has_entry(access, row) {
+        return if board.can_send(host) { Role::OpenProcessor } else { Role::None };
     }
+    let names = |&word: &u16| word == host && word != NO_HOST;
+    let place = row_words(access, row).iter().position(names);
+    place.map_or(Role::None, |place| PLACE_ROLES[place])
+}
+
+/// Whether `host` is permitted for the processor in `row`, in any role.
+pub fn is_permitted(board: &Board, access: &AccessMemory, row: usize, host: u16) -> bool {
+    role_of(board, access, row, host) != Role::None
 }
 
 /// Whether `host` is the recovery master of the processor in `row`. Without an entry there is none.
-pub fn is_recovery_master(access: &AccessMemory, row: usize, host: u16) -> bool {
-    host != NO_HOST && row_words(access, row)[0] == host
+pub fn is_recovery_master(board: &Board, access: &AccessMemory, row: usize, host: u16) -> bool {
+    role_of(board, access, row, host) == Role::RecoveryMaster
 }
 
 /// Whether the row has a master, which every used entry has.

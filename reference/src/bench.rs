@@ -1,18 +1,22 @@
 //! The fixed cases: the pack on the bench, the change requests and the worked session, with what
 //! they have to give.
 
+use crate::access::Role;
 use crate::message::ANSWER_BYTES;
 
 mod boards;
 mod cluster;
+mod roles;
 
-/// One thing that happens in a case. The line is what has to be printed.
+/// One thing that happens in a case. The line is what has to be printed, and the role, which no line
+/// tells, what the message before it has to report.
 #[derive(Clone, Debug)]
 pub enum Step {
     Board { description: Vec<u8>, line: &'static str },
     List { list: Vec<u8>, line: &'static str },
     Status { words: Vec<u32> },
     Message { channel: u8, message: Vec<u8>, room: usize, line: &'static str },
+    Told { role: Role },
 }
 
 /// A named run of steps from the start.
@@ -63,9 +67,10 @@ pub fn cases() -> Vec<Case> {
     cases.extend(open_cases());
     cases.extend(processor_cases());
     cases.extend(cluster::cases());
+    cases.extend(roles::cases());
     cases.push(worked_session());
     let described: Vec<_> = cases.iter().map(boards::described).collect();
-    [cases, described, boards::cases()].concat()
+    [cases, described, boards::cases(), vec![roles::full_board()]].concat()
 }
 
 /// The bytes that a text of hexadecimal pairs spells.

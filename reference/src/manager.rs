@@ -1,6 +1,6 @@
 //! The message call: the outcomes in the order of their tests, the effect of OK, and the answer.
 
-use crate::access::{has_list, is_permitted, is_recovery_master, AccessMemory};
+use crate::access::{has_list, is_permitted, is_recovery_master, role_of, AccessMemory, Role};
 use crate::board::{flag_mask, Board, Class, Word};
 use crate::message::{
     read_order, status_fields, ConfigChange, FlagChange, Header, Order, ANSWER_BYTES, HEADER_BYTES,
@@ -44,6 +44,7 @@ struct Target<'a> {
 /// How a message ends, before anything is stored or written.
 struct Ending {
     outcome: Outcome,
+    role: Role,
     checks: u32,
     microseconds: u32,
     /// the row and its new record; none where nothing changes
@@ -53,9 +54,16 @@ struct Ending {
 }
 
 impl Ending {
-    /// An ending that changes nothing and adds nothing to the answer.
+    /// An ending that tells no role, changes nothing and adds nothing to the answer.
     fn plain(outcome: Outcome) -> Ending {
-        Ending { outcome, checks: 0, microseconds: 0, change: None, fields: Vec::new() }
+        Ending {
+            outcome,
+            role: Role::None,
+            checks: 0,
+            microseconds: 0,
+            change: None,
+            fields: Vec::new(),
+        }
     }
 }
 
@@ -68,6 +76,7 @@ pub fn handle(setup: Setup, records: &mut RecordMemory, call: &Call, answer: &mu
     }
     Report {
         outcome: ending.outcome,
+        role: ending.role,
         checks: ending.checks,
         microseconds: ending.microseconds,
         written: write_answer(call.message, &ending, answer),
@@ -83,10 +92,12 @@ fn judge(setup: Setup, records: &RecordMemory, call: &Call, room: usize) -> Endi
     };
     let record = Record::load(setup.board, records, row);
     let target = Target { setup, processor, row, record };
-    if !target.grants(call.channel, &order) {
-        return Ending::plain(Outcome::N7);
-    }
-    target.carry_out(&order, call)
+    let ending = if target.grants(call.channel, &order) {
+        target.carry_out(&order, call)
+    } else {
+        Ending::plain(Outcome::N7)
+    };
+    Ending { role: target.told_role(call.channel, &order), ..ending }
 }
 
 /// R1 and R2.
@@ -128,8 +139,18 @@ impl Target<'_> {
 
     /// A free processor goes to any permitted host, and any processor to its recovery master.
     fn grants_request(&self, sender: u8) -> bool {
+        let Setup { board, access } = self.setup;
         let first = self.record.is_free() && self.permits(sender);
-        first || is_recovery_master(self.setup.access, self.row, u16::from(sender))
+        first || is_recovery_master(board, access, self.row, u16::from(sender))
+    }
+
+    /// The role that the report tells: the sender's for a request, none for every other order.
+    fn told_role(&self, sender: u8, order: &Order) -> Role {
+        let Setup { board, access } = self.setup;
+        match order {
+            Order::Request => role_of(board, access, self.row, u16::from(sender)),
+            _ => Role::None,
+        }
     }
 
     fn permits(&self, host: u8) -> bool {

@@ -1,5 +1,7 @@
 //! What a message call reports.
 
+use crate::access::Role;
+
 /// How a message call ends, by the name that is printed. Declared in the order of the tests.
 #[derive(Clone, Copy, Debug, PartialEq, Eq, PartialOrd, Ord)]
 pub enum Outcome {
@@ -79,6 +81,9 @@ impl Outcome {
 pub struct Report {
     /// for the log alone, never in the answer
     pub outcome: Outcome,
+    /// the sender's for the processor of a request that got to N7 or OK, else none; for the log
+    /// alone
+    pub role: Role,
     /// status words that a wait examined
     pub checks: u32,
     /// the delays that a wait took

@@ -187,9 +187,9 @@ pub fn write_line(out: &mut impl Write, event: &Event) -> io::Result<()> {
     }
 }
 
-/// Outcome, checks, microseconds, and the answer in hexadecimal or a dash.
+/// Outcome, checks, microseconds, and the answer in hexadecimal or a dash. The role is not printed.
 fn write_message_line(out: &mut impl Write, report: &Report, answer: &[u8]) -> io::Result<()> {
-    let Report { outcome, checks, microseconds, written } = report;
+    let Report { outcome, role: _, checks, microseconds, written } = report;
     write!(out, "{outcome:?} {checks} {microseconds} ")?;
     if *written == 0 {
         write!(out, "-")?;

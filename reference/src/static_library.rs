@@ -35,14 +35,18 @@ extern "C" {
 // The lengths that the C declarations name.
 const _: () = assert!(BOARD_BYTES == 576 && ACCESS_WORDS == 129 && RECORD_WORDS == 160);
 
-/// What the message call gave: outcome number, checks, microseconds, bytes written.
+/// What the message call gave: outcome number, checks, microseconds, bytes written, role number.
 #[derive(Clone, Copy, Debug, PartialEq, Eq)]
 pub struct RawReport {
     pub outcome: u32,
     pub checks: u32,
     pub microseconds: u32,
     pub written: u32,
+    pub role: u32,
 }
+
+/// Words of the report memory: all but the outcome, which is returned.
+const REPORT_WORDS: usize = 4;
 
 /// A number that no report has, so that a field left unwritten is seen.
 const UNWRITTEN: u32 = 0xAAAA_AAAA;
@@ -77,7 +81,7 @@ pub fn message(
     call: &Call,
     answer: &mut [u8],
 ) -> RawReport {
-    let mut report = [UNWRITTEN; 3];
+    let mut report = [UNWRITTEN; REPORT_WORDS];
     // SAFETY: each pointer is valid for the length that the declaration gives or that is passed,
     // and what may be written does not overlap anything else.
     let outcome = unsafe {
@@ -95,6 +99,6 @@ pub fn message(
             report.as_mut_ptr(),
         )
     };
-    let [checks, microseconds, written] = report;
-    RawReport { outcome, checks, microseconds, written }
+    let [checks, microseconds, written, role] = report;
+    RawReport { outcome, checks, microseconds, written, role }
 }

@@ -1,11 +1,14 @@
-// The access memory, asked who is permitted and who is the recovery master of the processor at a row.
-// Its layout is specs/Memory.antt; any content of it is a state. Hosts are 16-bit numbers throughout.
+// The access memory, asked whether a list was accepted and for the role of a host at a row. Its layout is specs/Memory.antt; any content of it is a state. Hosts are 16-bit numbers throughout.
 ghost use mathlib.Core.Path.{_≡_};
+ghost use mathlib.Core.Bool.{cond};
 ghost use lib.ListN.{getD};
-ghost use Rattle.rules.specs.AccessList.{permitted, isMaster};
+ghost use Rattle.rules.specs.declared.Role.the-variants.{None, Open};
+ghost use Rattle.rules.specs.Board.{activeHost};
+ghost use Rattle.rules.specs.Role.{roleOf};
 ghost use Rattle.board.specs.Memory.{boardIn};
 ghost use Rattle.access.specs.Memory.{listedIn, entryAt};
 use board::is_active;
+use rules::Role;
 
 // The word at place `i` of the access memory; past its end there are zeros.
 fn word_at(access: &[u16], i: usize) -> u16
@@ -24,26 +27,40 @@ pub fn is_listed(access: &[u16]) -> bool
     word_at(access, 0) != 0
 }
 
-// Whether `host` is permitted for the processor at `row`: with an entry its master and its used
-// secondaries, without one every board host but 0.
-pub fn is_permitted(board: &[u8; 576], access: &[u16], row: u8, host: u16) -> bool
-    ensures { λ r. ⌜ r ≡ permitted (boardIn (now (board .entry))) (entryAt (now (access .entry)) row) host ⌝ }
+// The role of `host` on a processor without an entry, which is open to every board host but 0.
+fn open_role(board: &[u8; 576], host: u16) -> Role
+    ensures { λ r. ⌜ r ≡ cond (activeHost (boardIn (now (board .entry))) host) Open None ⌝ }
 {
-    let at = 1 + 4 * (row as usize);
-    let master = word_at(access, at);
-    if master == 0 {
-        return is_active(board, host);
+    if is_active(board, host) {
+        return Role::Open;
     }
-    let first = word_at(access, at + 1);
-    let second = word_at(access, at + 2);
-    let third = word_at(access, at + 3);
-    (master == host) | ((host != 0) & ((first == host) | (second == host) | (third == host)))
+    Role::None
 }
 
-// Whether `host` is the recovery master of the processor at `row`; without an entry there is none.
-pub fn is_master(access: &[u16], row: u8, host: u16) -> bool
-    ensures { λ r. ⌜ r ≡ isMaster (entryAt (now (access .entry)) row) host ⌝ }
+// The role of `host` for the processor at `row`. Host 0 has none: it never sends, and a secondary of 0 is
+// unused. By an entry the master comes first, then the lowest place.
+pub fn role_of(board: &[u8; 576], access: &[u16], row: u8, host: u16) -> Role
+    ensures { λ r. ⌜ r ≡ roleOf (boardIn (now (board .entry))) (entryAt (now (access .entry)) row) host ⌝ }
 {
-    let master = word_at(access, 1 + 4 * (row as usize));
-    (master != 0) & (master == host)
+    if host == 0 {
+        return Role::None;
+    }
+    let at = 1 + 4 * (row as usize);
+    let master = word_at(access, at);
+    if master == host {
+        return Role::Master;
+    }
+    if master == 0 {
+        return open_role(board, host);
+    }
+    if word_at(access, at + 1) == host {
+        return Role::Secondary0;
+    }
+    if word_at(access, at + 2) == host {
+        return Role::Secondary1;
+    }
+    if word_at(access, at + 3) == host {
+        return Role::Secondary2;
+    }
+    Role::None
 }

@@ -9,24 +9,25 @@ use Rattle.rules.specs.declared.Kind.the-variants.{Request, Release, Handover, 
 use Rattle.rules.specs.declared.Outcome.{Outcome}
 use Rattle.rules.specs.declared.Outcome.the-variants.{N3, Ok}
 use Rattle.rules.specs.declared.Record.{Record}
+use Rattle.rules.specs.declared.Role.the-variants.{None}
 use Rattle.rules.specs.Table.{firstOf}
 use Rattle.rules.specs.Board.{Board}
 use Rattle.rules.specs.Message.{Query, query, isKind, kindIn, subjectOf}
 use Rattle.rules.specs.Outcome.{View, typeUnknown, byWords, wordsMissing, waitFailed, carriedOut}
 use Rattle.rules.specs.Effect.{effectOf}
-use Rattle.rules.specs.Answer.{waited}
+use Rattle.rules.specs.Answer.{waited, tellsRole}
 use Rattle.rules.proofs.Tests.{decide, clash, cond-true, cond-false}
 use Rattle.records.specs.Memory.{recordAt, viewIn, withRecord}
 use Rattle.records.proofs.LentMemory.{store-same}
 use Rattle.operations.specs.declared.Decision.{Decision}
-use Rattle.operations.specs.Operation.{typeTable, asked, rowIn, memoryAfter, Carries, RefusesBoot, ReadsStatus, decisionOn, WaitsForStatus}
+use Rattle.operations.specs.Operation.{typeTable, asked, rowIn, memoryAfter, decisionOn, Carries, CarriesRequest, RefusesBoot, ReadsStatus, WaitsForStatus}
 use Rattle.dispatch.specs.Dispatched.{kindTable, DecidesKind}
 
--- a message that is no wait reports no checks
-plain : (k : Kind) (q : Query) (o : Outcome) → isKind k WaitStatus ≡ false
-    → _≡_ {A = Decision} (record { outcome = o; checks = 0; micros = 0 }) (decisionOn k q o)
-unfolding decisionOn waited
-plain k q o other = rw other
+-- a message that is neither request nor wait reports the outcome alone
+plain : (k : Kind) (v : View) (q : Query) (o : Outcome) → isKind k Request ≡ false → isKind k WaitStatus ≡ false
+    → _≡_ {A = Decision} (record { outcome = o; checks = 0; micros = 0; role = None }) (decisionOn k v q o)
+unfolding decisionOn waited tellsRole
+plain k v q o role other = rw (role, other)
 
 -- types that change no record leave the memory
 unchanged : (b : Board) (k : Kind) (memory : List ℕ) (q : Query) (o : Outcome) → ((r : Record) → effectOf k q r ≡ r) → memory ≡ memoryAfter b k o memory q
@@ -60,13 +61,13 @@ module _ (b : Board) (access memory : List ℕ) (channel : ℕ) (m words : List 
 
   -- what a type's function decided and left is what the table decides and leaves
   decides : (k : Kind) (memory′ : List ℕ) (o : Outcome) → kindIn m ≡ k → o ≡ firstOf Ok (kindTable v q k)
-      → memory′ ≡ memoryAfter b k o memory q → DecidesKind b access memory q memory′ (decisionOn k q o)
+      → memory′ ≡ memoryAfter b k o memory q → DecidesKind b access memory q memory′ (decisionOn k v q o)
   unfolding decisionOn
   decides k memory′ o is decided left =
       record {
         decision =
-            ap (decisionOn k q) decided
-            ∙ ap (λ (x : Kind). decisionOn x q (firstOf Ok (kindTable v q x))) (sym is);
+            ap (decisionOn k v q) decided
+            ∙ ap (λ (x : Kind). decisionOn x v q (firstOf Ok (kindTable v q x))) (sym is);
         records = left ∙ ap (λ (x : Kind). memoryAfter b x o memory q) (sym is);
       }
 
@@ -104,27 +105,39 @@ module _ (b : Board) (access memory : List ℕ) (channel : ℕ) (m words : List 
   -- ---- the arms
 
   pub carried : (k : Kind) (memory′ : List ℕ) (o : Outcome) → kindIn m ≡ k
-      → typeUnknown k ≡ false → isKind k GetStatus ≡ false → isKind k WaitStatus ≡ false
+      → typeUnknown k ≡ false → isKind k Request ≡ false → isKind k GetStatus ≡ false → isKind k WaitStatus ≡ false
       → Carries b k access memory (asked channel m []) memory′ o
-      → DecidesKind b access memory q memory′ (record { outcome = o; checks = 0; micros = 0 })
+      → DecidesKind b access memory q memory′ (record { outcome = o; checks = 0; micros = 0; role = None })
   unfolding subjectOf
-  carried k memory′ o is typed g w meets =
-      subst⁻¹ (DecidesKind b access memory q memory′) (plain k q o w)
+  carried k memory′ o is typed n g w meets =
+      subst⁻¹ (DecidesKind b access memory q memory′) (plain k v q o n w)
       (decides k memory′ o is
       (meets .outcome ∙ wordless k g w ∙ sym (known k typed))
       (meets .records ∙ same-effect b k o memory channel m [] words 0 0))
 
+  -- a request, with the sender's role
+  pub requested : (memory′ : List ℕ) (d : Decision) → kindIn m ≡ Request
+      → CarriesRequest b access memory (asked channel m []) memory′ d → DecidesKind b access memory q memory′ d
+  unfolding subjectOf decisionOn waited
+  requested memory′ d is meets =
+      let o = firstOf Ok (typeTable v q Request) in
+      let told : d ≡ decisionOn Request v q o = meets .decision ∙ ap (decisionOn Request v q) (wordless Request refl refl) in
+      subst⁻¹ (DecidesKind b access memory q memory′) told
+      (decides Request memory′ o is (sym (known Request refl))
+      (meets .records ∙ ap (λ (x : Decision). memoryAfter b Request (x .outcome) memory (asked channel m [])) told
+      ∙ same-effect b Request o memory channel m [] words 0 0))
+
   pub booted : (o : Outcome) → kindIn m ≡ AuthBoot → RefusesBoot m o
-      → DecidesKind b access memory q memory (record { outcome = o; checks = 0; micros = 0 })
+      → DecidesKind b access memory q memory (record { outcome = o; checks = 0; micros = 0; role = None })
   booted o is refuses =
-      subst⁻¹ (DecidesKind b access memory q memory) (plain AuthBoot q o refl)
+      subst⁻¹ (DecidesKind b access memory q memory) (plain AuthBoot v q o refl refl)
       (decides AuthBoot memory o is (refuses v channel words ∙ sym (known AuthBoot refl)) (unchanged b AuthBoot memory q o (λ r. refl)))
 
   pub status-read : (o : Outcome) → kindIn m ≡ GetStatus → ReadsStatus b access q o
-      → DecidesKind b access memory q memory (record { outcome = o; checks = 0; micros = 0 })
+      → DecidesKind b access memory q memory (record { outcome = o; checks = 0; micros = 0; role = None })
   unfolding viewIn
   status-read o is reads =
-      subst⁻¹ (DecidesKind b access memory q memory) (plain GetStatus q o refl)
+      subst⁻¹ (DecidesKind b access memory q memory) (plain GetStatus v q o refl refl)
       (decides GetStatus memory o is (reads (recordAt b memory (rowIn b q)) ∙ sym (known GetStatus refl)) (unchanged b GetStatus memory q o (λ r. refl)))
 
   pub status-awaited : (d : Decision) → kindIn m ≡ WaitStatus → WaitsForStatus b access q d → DecidesKind b access memory q memory d
@@ -134,8 +147,8 @@ module _ (b : Board) (access memory : List ℕ) (channel : ℕ) (m words : List 
       subst⁻¹ (DecidesKind b access memory q memory) (waits (recordAt b memory (rowIn b q)))
       (decides WaitStatus memory o is (sym (known WaitStatus refl)) (unchanged b WaitStatus memory q o (λ r. refl)))
 
-  pub unknown : kindIn m ≡ Other → DecidesKind b access memory q memory (record { outcome = N3; checks = 0; micros = 0 })
+  pub unknown : kindIn m ≡ Other → DecidesKind b access memory q memory (record { outcome = N3; checks = 0; micros = 0; role = None })
   unfolding kindTable firstOf
   unknown is =
-      subst⁻¹ (DecidesKind b access memory q memory) (plain Other q N3 refl)
+      subst⁻¹ (DecidesKind b access memory q memory) (plain Other v q N3 refl refl)
       (decides Other memory N3 is refl (unchanged b Other memory q N3 (λ r. refl)))

@@ -21,5 +21,6 @@ kindTable v q k = (typeUnknown k gives N3) ∷ typeTable v q k
 -- the rows from the type on: what they decide, and the record memory afterwards
 pub record DecidesKind (b : Board) (access memory : List ℕ) (q : Query) (memory′ : List ℕ) (r : Decision) : Type 0 where
   pub decision :
-      r ≡ decisionOn (kindIn (q .message)) q (firstOf Ok (kindTable (viewIn b access memory (rowIn b q)) q (kindIn (q .message))))
+      let v = viewIn b access memory (rowIn b q) in
+      r ≡ decisionOn (kindIn (q .message)) v q (firstOf Ok (kindTable v q (kindIn (q .message))))
   pub records : memory′ ≡ memoryAfter b (kindIn (q .message)) (r .outcome) memory q

@@ -10,7 +10,7 @@ use control::set_control;
 use handover::handover;
 use messages::kind_of;
 use operations::Decision;
-use operations::unwaited;
+use operations::outcome_alone;
 use release::release;
 use request::request;
 use rules::Kind;
@@ -32,14 +32,14 @@ pub fn by_kind(
 {
     let kind = kind_of(u16_at(message, 0));
     match kind {
-        Kind::Request => unwaited(request(board, access, records, channel, message)),
-        Kind::Release => unwaited(release(board, records, channel, message)),
-        Kind::Handover => unwaited(handover(board, access, records, channel, message)),
-        Kind::SetConfig => unwaited(set_config(board, records, channel, message)),
-        Kind::SetControl => unwaited(set_control(board, records, channel, message)),
-        Kind::AuthBoot => unwaited(authenticated_boot(message)),
-        Kind::GetStatus => unwaited(get_status(board, access, channel, message, status)),
+        Kind::Request => request(board, access, records, channel, message),
+        Kind::Release => outcome_alone(release(board, records, channel, message)),
+        Kind::Handover => outcome_alone(handover(board, access, records, channel, message)),
+        Kind::SetConfig => outcome_alone(set_config(board, records, channel, message)),
+        Kind::SetControl => outcome_alone(set_control(board, records, channel, message)),
+        Kind::AuthBoot => outcome_alone(authenticated_boot(message)),
+        Kind::GetStatus => outcome_alone(get_status(board, access, channel, message, status)),
         Kind::WaitStatus => wait_status(board, access, channel, message, status),
-        Kind::Other => unwaited(Outcome::N3),
+        Kind::Other => outcome_alone(Outcome::N3),
     }
 }

@@ -5,13 +5,13 @@ ghost use mathlib.Core.List.{[]};
 ghost use Rattle.rules.specs.declared.Kind.the-variants.{Handover};
 ghost use Rattle.board.specs.Memory.{boardIn};
 ghost use Rattle.operations.specs.Operation.{asked, Carries};
-use access::is_permitted;
 use board::ROWS;
 use effects::held_by;
 use operations::row_in;
 use records::load;
 use records::store_own;
 use rights::is_controller;
+use rights::is_permitted;
 use rules::Outcome;
 use wire::byte_at;
 

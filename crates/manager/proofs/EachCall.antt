@@ -121,7 +121,7 @@ module _ (b : Board) (a m : List ℕ) (channel : ℕ) (bytes words held : List �
   pub message-call : (d : Decision) (n : ℕ) (m′ held′ : List ℕ)
       → Decides b a m q m′ d
       → Puts (answerBytes (d .outcome) (asked 0 bytes words) (recordAt b m′ (rowIn b (asked 0 bytes words)))) held held′ n
-      → MessageCall b a m (lending channel bytes words held) m′ held′ (record { outcome = d .outcome; checks = d .checks; micros = d .micros; written = n })
+      → MessageCall b a m (lending channel bytes words held) m′ held′ (record { outcome = d .outcome; checks = d .checks; micros = d .micros; written = n; role = d .role })
   unfolding stateIn answerTo next afterMessage stored reportOf decisionOn subjectOf setupIn
   message-call d n m′ held′ decides puts =
       let is : d .outcome ≡ outcomeOf v q = ap (λ (x : Decision). x .outcome) (decides .decision) in
@@ -134,13 +134,14 @@ module _ (b : Board) (a m : List ℕ) (channel : ℕ) (bytes words held : List �
       ∙ same-bytes)
       ∙ all-fits v q
       in
-      let here : _≡_ {A = Report} (record { outcome = d .outcome; checks = d .checks; micros = d .micros; written = n }) (reportOf v q) =
+      let here : _≡_ {A = Report} (record { outcome = d .outcome; checks = d .checks; micros = d .micros; written = n; role = d .role }) (reportOf v q) =
       λ t.
       record {
         outcome = decides .decision t .outcome;
         checks = decides .decision t .checks;
         micros = decides .decision t .micros;
         written = (puts .count ∙ ap length fits) t;
+        role = decides .decision t .role;
       }
       in
       record {

@@ -2,18 +2,19 @@
 -- Assumes nothing.
 use Prim.Native.Nat.{ℕ}
 use mathlib.Core.Path.{_≡_, refl, sym, ap, _∙_}
-use mathlib.Core.Bool.{Bool, true, false, _&&_, _||_, and-false}
+use mathlib.Core.Bool.{Bool, true, false, _&&_, and-false}
 use mathlib.Core.List.{List, [], _∷_}
 use lib.Dec.{eqb}
 use Rattle.rules.specs.declared.Kind.{Kind}
-use Rattle.rules.specs.declared.Kind.the-variants.{WaitStatus}
+use Rattle.rules.specs.declared.Kind.the-variants.{Request, WaitStatus}
 use Rattle.rules.specs.declared.Outcome.{Outcome}
-use Rattle.rules.specs.declared.Outcome.the-variants.{R1, R2, N1, N2, Ok}
+use Rattle.rules.specs.declared.Outcome.the-variants.{R1, R2, N1, N2, N7, N9, Ok}
+use Rattle.rules.specs.declared.Role.the-variants.{None}
 use Rattle.rules.specs.Table.{_gives_, firstOf}
 use Rattle.rules.specs.Board.{Board}
 use Rattle.rules.specs.Message.{Query, query, isKind, kindIn, subjectOf}
 use Rattle.rules.specs.Outcome.{View, senderWrong, admission, outcomeTable, outcomeOf, outcomeNumber, carriedOut}
-use Rattle.rules.specs.Answer.{waited}
+use Rattle.rules.specs.Answer.{okOr, waited, tellsRole}
 use Rattle.rules.proofs.Tests.{or-false-left, cond-false}
 use Rattle.access.specs.Memory.{listedIn}
 use Rattle.records.specs.Memory.{viewIn}
@@ -53,15 +54,15 @@ four-refused false false true d below o is bad = is
 four-refused false false false true below o is bad = is
 four-refused false false false false below o is bad = absurd (bad (sym is))
 
--- a refusal among them is neither OK nor the end of a wait
+-- a refusal among them is neither OK nor the end of a wait, nor N7
 four-early : (a b c d : Bool) (o : Outcome) → o ≡ firstOf Ok ((a gives R1) ∷ (b gives R2) ∷ (c gives N1) ∷ (d gives N2) ∷ [])
     → (o ≡ Ok → ⊥)
-    → (carriedOut o || eqb (outcomeNumber o) 9) ≡ false
+    → (okOr N9 o ≡ false) × (okOr N7 o ≡ false)
 unfolding firstOf carriedOut
-four-early true b c d o is bad = rw is
-four-early false true c d o is bad = rw is
-four-early false false true d o is bad = rw is
-four-early false false false true o is bad = rw is
+four-early true b c d o is bad = (rw is, rw is)
+four-early false true c d o is bad = (rw is, rw is)
+four-early false false true d o is bad = (rw is, rw is)
+four-early false false false true o is bad = (rw is, rw is)
 four-early false false false false o is bad = absurd (bad is)
 
 module _ (b : Board) (access memory : List ℕ) (q : Query) where
@@ -82,6 +83,9 @@ module _ (b : Board) (access memory : List ℕ) (q : Query) where
 -- ---- the whole table
 
 module _ (b : Board) (access memory : List ℕ) (channel : ℕ) (m words : List ℕ) where
+  abbrev v : View
+  v = viewIn b access memory (rowIn b (asked channel m words))
+
   module _ (room : ℕ) {first : Outcome} (told : first ≡ firstOf Ok (senderTable b (listedIn access) (query channel m [] room))) where
     -- the rows up to the sender need no status word
     told-here : first ≡ firstOf Ok (senderTable b (listedIn access) (query channel m words room))
@@ -95,26 +99,29 @@ module _ (b : Board) (access memory : List ℕ) (channel : ℕ) (m words : List 
         record {
           decision =
               meets .decision
-              ∙ ap (decisionOn (kindIn m) (asked channel m words))
+              ∙ ap (decisionOn (kindIn m) v (asked channel m words))
               (roomless b access memory channel m words (kindIn m) room ∙ sym (sender-passed b access memory (query channel m words room) (sym told-here ∙ ok)));
           records = meets .records ∙ same-effect b (kindIn m) (d .outcome) memory channel m words words 0 room;
         }
 
     pub refused-first : (first ≡ Ok → ⊥)
-        → Decides b access memory (query channel m words room) memory (record { outcome = first; checks = 0; micros = 0 })
-    unfolding senderTable decisionOn waited memoryAfter
+        → Decides b access memory (query channel m words room) memory (record { outcome = first; checks = 0; micros = 0; role = None })
+    unfolding senderTable decisionOn waited tellsRole memoryAfter subjectOf
     refused-first bad =
         let early = four-early _ _ _ _ first told-here bad in
         let is = sender-refused b access memory (query channel m words room) first told-here bad in
         let no-wait : waited (kindIn m) first ≡ false =
-        ap (λ (x : Bool). isKind (kindIn m) WaitStatus && x) early ∙ and-false (isKind (kindIn m) WaitStatus)
+        ap (λ (x : Bool). isKind (kindIn m) WaitStatus && x) (early .0) ∙ and-false (isKind (kindIn m) WaitStatus)
         in
-        let none : _≡_ {A = Decision} (record { outcome = first; checks = 0; micros = 0 }) (decisionOn (kindIn m) (query channel m words room) first) =
-        rw no-wait
+        let no-role : tellsRole (kindIn m) first ≡ false =
+        ap (λ (x : Bool). isKind (kindIn m) Request && x) (early .1) ∙ and-false (isKind (kindIn m) Request)
+        in
+        let none : _≡_ {A = Decision} (record { outcome = first; checks = 0; micros = 0; role = None }) (decisionOn (kindIn m) v (query channel m words room) first) =
+        rw (no-wait, no-role)
         in
         record {
           decision =
               none
-              ∙ ap (decisionOn (kindIn m) (query channel m words room)) (sym is);
-          records = sym (cond-false _ memory (or-false-left (carriedOut first) (eqb (outcomeNumber first) 9) early));
+              ∙ ap (decisionOn (kindIn m) v (query channel m words room)) (sym is);
+          records = sym (cond-false _ memory (or-false-left (carriedOut first) (eqb (outcomeNumber first) 9) (early .0)));
         }

@@ -11,5 +11,5 @@ use Rattle.operations.specs.Operation.{rowIn, memoryAfter, decisionOn}
 
 -- the whole table
 pub record Decides (b : Board) (access memory : List ℕ) (q : Query) (memory′ : List ℕ) (r : Decision) : Type 0 where
-  pub decision : r ≡ decisionOn (kindIn (q .message)) q (outcomeOf (viewIn b access memory (rowIn b q)) q)
+  pub decision : let v = viewIn b access memory (rowIn b q) in r ≡ decisionOn (kindIn (q .message)) v q (outcomeOf v q)
   pub records : memory′ ≡ memoryAfter b (kindIn (q .message)) (r .outcome) memory q

@@ -11,7 +11,7 @@ ghost use Rattle.manager.specs.Decision.{Decides};
 use access::is_listed;
 use dispatch::by_kind;
 use operations::Decision;
-use operations::unwaited;
+use operations::outcome_alone;
 use replies::write_answer;
 use rules::Outcome;
 use rules::Report;
@@ -57,7 +57,7 @@ fn decide(
     let first = admit(board, access, channel, message, room);
     match first {
         Outcome::Ok => by_kind(board, access, records, channel, message, status),
-        refusal => unwaited(refusal),
+        refusal => outcome_alone(refusal),
     }
 }
 
@@ -79,11 +79,13 @@ pub fn message(
     let room = answer.len();
     let decision = decide(board, list, records, channel, message, status, room);
     let outcome = decision.outcome;
+    let role = decision.role;
     let written = write_answer(board, answer, message, outcome, &records[..], status);
     Report {
         outcome,
         checks: decision.checks,
         micros: decision.micros,
         written,
+        role,
     }
 }

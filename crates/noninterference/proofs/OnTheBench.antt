@@ -7,7 +7,8 @@ use Rattle.rules.specs.Table.{firstOf, anyOf, allOf, placeOf, allFrom, tableOf}
 use Rattle.rules.specs.Board.{boardHost, activeHost, rowOf, onBoard, homeAt, homeOf, shareControl}
 use Rattle.rules.specs.Description.{ourDescription, listsProcessor, markIn, rowIn, classIn, sharedCluster, sharedIn, homeIn, boardOf, ours}
 use Rattle.rules.specs.Verdict.{accepted}
-use Rattle.rules.specs.AccessList.{noEntry, partsFrom, namedIn, entryTable, entriesTable, listTable, verdictOf, entryIn, withPart, withParts, noEntries, entriesOf, hasEntry, isMaster, isSecondary, permitted}
+use Rattle.rules.specs.AccessList.{noEntry, partsFrom, namedIn, entryTable, entriesTable, listTable, verdictOf, entryIn, withPart, withParts, noEntries, entriesOf, hasEntry}
+use Rattle.rules.specs.Role.{namesHost, roleTable, roleOf, permitted}
 use Rattle.rules.specs.Message.{kindOf, namesProcessor, subjectOf, isAbout}
 use Rattle.rules.specs.State.{listed, State, fresh, entryOf}
 use Rattle.rules.specs.Call.{list, verdictTo, taken, afterOffer, Call, offer, next}
@@ -37,7 +38,7 @@ disturbed =
     request 12 ∷ request 3 ∷ setConfig 12 0x41C00100 0 ∷ offer (list benchList) ∷ setConfig 3 0x41C00080 0 ∷ handover 12 12 ∷ handover 3 5 ∷ request 12 ∷ []
 
 same-picks : picks (start .setup) bothR5 quiet ≡ picks (start .setup) bothR5 disturbed
-unfolding tableOf ours ourDescription listsProcessor markIn rowIn classIn sharedCluster sharedIn homeIn boardOf firstOf anyOf boardHost activeHost placeOf rowOf onBoard noEntry partsFrom namedIn entryTable entriesTable listTable verdictOf accepted entryIn withPart withParts noEntries entriesOf hasEntry isMaster isSecondary permitted kindOf namesProcessor subjectOf isAbout listed fresh entryOf verdictTo taken afterOffer permittedFor insider aboutChosen picked picks next run
+unfolding tableOf ours ourDescription listsProcessor markIn rowIn classIn sharedCluster sharedIn homeIn boardOf firstOf anyOf boardHost activeHost placeOf rowOf onBoard noEntry partsFrom namedIn entryTable entriesTable listTable verdictOf accepted entryIn withPart withParts noEntries entriesOf hasEntry namesHost roleTable roleOf permitted kindOf namesProcessor subjectOf isAbout listed fresh entryOf verdictTo taken afterOffer permittedFor insider aboutChosen picked picks next run
 same-picks = refl
 
 -- so host 12 changes none of the answers

@@ -1,9 +1,11 @@
-// The numbers of outcomes and verdicts, for the log, the printed lines and the callers in C. The rules are
-// `outcomeNumber` and `verdictNumber` in rules/specs.
+// The numbers of outcomes, verdicts and roles, for the log, the printed lines and the callers in C. The rules
+// are `outcomeNumber`, `verdictNumber` and `roleNumber` in rules/specs.
 ghost use mathlib.Core.Path.{_≡_};
 ghost use Rattle.rules.specs.Verdict.{verdictNumber};
+ghost use Rattle.rules.specs.Role.{roleNumber};
 ghost use Rattle.rules.specs.Outcome.{outcomeNumber};
 use rules::Outcome;
+use rules::Role;
 use rules::Verdict;
 
 // Document 01's number of an outcome: 0 for OK, k for Nk, 100 + k for Rk.
@@ -47,5 +49,19 @@ pub fn verdict_number(verdict: Verdict) -> u32
         Verdict::D4 => 204,
         Verdict::D5 => 205,
         Verdict::D6 => 206,
+    }
+}
+
+// The number of a role in the log: 0 none, 1 recovery master, 2, 3 and 4 secondary 0, 1 and 2, 5 open.
+pub fn role_number(role: Role) -> u32
+    ensures { λ r. ⌜ r ≡ roleNumber role ⌝ }
+{
+    match role {
+        Role::None => 0,
+        Role::Master => 1,
+        Role::Secondary0 => 2,
+        Role::Secondary1 => 3,
+        Role::Secondary2 => 4,
+        Role::Open => 5,
     }
 }

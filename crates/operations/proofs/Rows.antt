@@ -2,28 +2,33 @@
 -- leaves in the record memory. Once for every type. Assumes nothing.
 use Prim.Native.Nat.{ℕ, _≤_, _<_}
 use mathlib.Core.Path.{_≡_, refl, sym, subst, subst⁻¹, ap, _∙_}
-use mathlib.Core.Bool.{Bool, true, false, not}
+use mathlib.Core.Bool.{Bool, true, false, cond, not}
 use mathlib.Core.List.{List}
 use lib.ListN.{length}
 use lib.Dec.{eqb}
 use borrow.Author.Tests.{lt-ltb, le-ltb, ltb-true, not-true, not-false}
 use Rattle.rules.specs.declared.Kind.{Kind}
-use Rattle.rules.specs.declared.Kind.the-variants.{GetStatus, WaitStatus}
+use Rattle.rules.specs.declared.Kind.the-variants.{Request, GetStatus, WaitStatus}
 use Rattle.rules.specs.declared.Outcome.{Outcome}
 use Rattle.rules.specs.declared.Outcome.the-variants.{N4, N5, N6, N7, N8, Ok}
 use Rattle.rules.specs.declared.Record.{Record}
+use Rattle.rules.specs.declared.Role.{Role}
+use Rattle.rules.specs.declared.Role.the-variants.{None}
 use Rattle.rules.specs.Table.{firstOf}
 use Rattle.rules.specs.Board.{Board, rows, rowOf, onBoard, classAt, classOf, homeAt}
+use Rattle.rules.specs.Role.{roleOf}
 use Rattle.rules.specs.Bytes.{u16At}
 use Rattle.rules.specs.Message.{Query, kindOf, kindIn, sizeOf, isKind, processorOf, subjectOf}
-use Rattle.rules.specs.Outcome.{View, tooShort, notOffered, hasRight, operandsGood, wordsMissing, waitFailed, byWords, carriedOut, outcomeNumber}
+use Rattle.rules.specs.Outcome.{View, tooShort, notOffered, senderRole, hasRight, operandsGood, wordsMissing, waitFailed, byWords, carriedOut, outcomeNumber}
 use Rattle.rules.specs.Effect.{effectOf}
+use Rattle.rules.specs.Answer.{okOr, waited, tellsRole}
 use Rattle.rules.specs.State.{ownOf}
 use Rattle.rules.proofs.Tests.{cond-true, cond-false}
-use Rattle.access.specs.Memory.{viewWith}
+use Rattle.access.specs.Memory.{entryAt, viewWith}
 use Rattle.records.specs.Memory.{recordAt, viewIn, withOwn, withControlWord, withRecord}
 use Rattle.records.proofs.LentMemory.{word-stands, own-stands, own-stored, control-stored}
-use Rattle.operations.specs.Operation.{typeTable, rowIn, memoryAfter, Carries}
+use Rattle.operations.specs.declared.Decision.{Decision}
+use Rattle.operations.specs.Operation.{typeTable, rowIn, memoryAfter, decisionOn, Carries, CarriesRequest}
 
 -- ---- what a test of x says of the t that x is
 
@@ -216,3 +221,37 @@ module _ {b : Board} {k : Kind} {access memory : List ℕ} {q : Query} where
         → Carries b k access memory q memory′ Ok
     carries-control keeps stored =
         carries (stored ∙ control-stored b memory row next (ap ownOf effect ∙ keeps state ∙ ap ownOf (loaded-is l) ∙ own-stands b memory row (loaded-row l)))
+
+-- ---- a request
+
+module _ {b : Board} {access memory memory′ : List ℕ} {q : Query} {o : Outcome} where
+  -- it carries the role from N7 on
+  requests : {role : Role} {d : Decision} → Carries b Request access memory q memory′ o
+      → role ≡ cond (okOr N7 o) (senderRole (viewIn b access memory (rowIn b q)) q) None
+      → d ≡ record { outcome = o; checks = 0; micros = 0; role = role }
+      → CarriesRequest b access memory q memory′ d
+  unfolding decisionOn waited tellsRole
+  requests meets told is =
+      let v = viewIn b access memory (rowIn b q) in
+      let carried : _≡_ {A = Decision} _ (decisionOn Request v q o) = ap (λ (x : Role). record { outcome = o; checks = 0; micros = 0; role = x }) told in
+      record {
+        decision = is ∙ carried ∙ ap (decisionOn Request v q) (meets .outcome);
+        records = meets .records ∙ ap (λ (x : Decision). memoryAfter b Request (x .outcome) memory q) (sym is);
+      }
+
+  pub requests-early : {d : Decision} → Carries b Request access memory q memory′ o → okOr N7 o ≡ false
+      → d ≡ record { outcome = o; checks = 0; micros = 0; role = None } → CarriesRequest b access memory q memory′ d
+  requests-early meets early is = requests meets (sym (cond-false _ None early)) is
+
+  -- the role that the code has found by the row
+  pub requests-late : {row : ℕ} {state : Record} {role : Role} {d : Decision} → Loaded b Request q memory row state
+      → Carries b Request access memory q memory′ o
+      → okOr N7 o ≡ true
+      → role ≡ roleOf b (entryAt access row) (q .channel)
+      → d ≡ record { outcome = o; checks = 0; micros = 0; role = role }
+      → CarriesRequest b access memory q memory′ d
+  unfolding viewIn
+  requests-late l meets late found is =
+      requests meets
+      (found ∙ ap (λ (n : ℕ). roleOf b (entryAt access n) (q .channel)) (l .reached .here) ∙ sym (cond-true _ None late))
+      is

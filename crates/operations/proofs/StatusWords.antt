@@ -10,17 +10,18 @@ use Rattle.rules.specs.declared.Kind.the-variants.{GetStatus, WaitStatus}
 use Rattle.rules.specs.declared.Outcome.{Outcome}
 use Rattle.rules.specs.declared.Outcome.the-variants.{N9, R3, Ok}
 use Rattle.rules.specs.declared.Record.{Record}
+use Rattle.rules.specs.declared.Role.the-variants.{None}
 use Rattle.rules.specs.declared.Wait.{Wait}
 use Rattle.rules.specs.Table.{firstOf}
 use Rattle.rules.specs.Board.{Board}
 use Rattle.rules.specs.Message.{Query, waitIn}
 use Rattle.rules.specs.Wait.{ranOut, checksOf, microsOf}
 use Rattle.rules.specs.Outcome.{wordsMissing, waitFailed, byWords, carriedOut}
-use Rattle.rules.specs.Answer.{waited}
+use Rattle.rules.specs.Answer.{waited, tellsRole}
 use Rattle.rules.proofs.Tests.{cond-true, cond-false}
 use Rattle.access.specs.Memory.{viewWith}
 use Rattle.operations.specs.declared.Decision.{Decision}
-use Rattle.operations.specs.Operation.{typeTable, rowIn, decisionOn}
+use Rattle.operations.specs.Operation.{typeTable, rowIn, decisionOn, decisionBy}
 use Rattle.operations.proofs.Rows.{Comes, Refused, Admitted}
 
 -- ---- of any type
@@ -67,9 +68,9 @@ module _ {b : Board} {q : Query} {access : List ℕ} {state : Record} {w : Wait}
 
 -- a refusal reports no checks
 pub unwaits : {b : Board} {q : Query} {access : List ℕ} {state : Record} {o : Outcome} {d : Decision} → Refused b WaitStatus q access state o
-    → d ≡ record { outcome = o; checks = 0; micros = 0 }
-    → d ≡ decisionOn WaitStatus q (firstOf Ok (typeTable (viewWith b access (rowIn b q) state) q WaitStatus))
-unfolding decisionOn waited
+    → d ≡ record { outcome = o; checks = 0; micros = 0; role = None }
+    → d ≡ decisionBy WaitStatus (viewWith b access (rowIn b q) state) q
+unfolding decisionOn waited tellsRole
 unwaits r is = is ∙ rw (r .comes .is, r .refused, r .early)
 
 -- a wait that ended reports them, OK or N9
@@ -80,7 +81,7 @@ ended false = refl
 
 pub waits : {b : Board} {q : Query} {access : List ℕ} {state : Record} {w : Wait} {d : Decision} → w ≡ waitIn (q .message)
     → Comes b WaitStatus q access state (cond (ranOut w (q .status)) N9 Ok)
-    → d ≡ record { outcome = cond (ranOut w (q .status)) N9 Ok; checks = checksOf w (q .status); micros = microsOf w (q .status) }
-    → d ≡ decisionOn WaitStatus q (firstOf Ok (typeTable (viewWith b access (rowIn b q) state) q WaitStatus))
-unfolding decisionOn
+    → d ≡ record { outcome = cond (ranOut w (q .status)) N9 Ok; checks = checksOf w (q .status); micros = microsOf w (q .status); role = None }
+    → d ≡ decisionBy WaitStatus (viewWith b access (rowIn b q) state) q
+unfolding decisionOn tellsRole
 waits {q} {w = w} here comes is = is ∙ rw (comes .is, ended (ranOut w (q .status)), here)

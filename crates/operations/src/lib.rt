@@ -2,18 +2,21 @@
 // what a message comes to. Each type is in a crate of its own above, and the rows of document 01's
 // outcome table that they test, from N4 on, are in specs/Operation.antt.
 ghost use mathlib.Core.Path.{_≡_};
+ghost use Rattle.rules.specs.declared.Role.the-variants.{None};
 ghost use Rattle.rules.specs.Board.{rowOf};
 ghost use Rattle.rules.specs.Message.{processorOf};
 ghost use Rattle.board.specs.Memory.{boardIn};
 use board::row_of;
 use rules::Outcome;
+use rules::Role;
 use wire::byte_at;
 
-// What a message comes to: the outcome, and what a wait reports.
+// What a message comes to: the outcome, what a wait reports, and the sender's role in a request.
 pub struct Decision {
     pub outcome: Outcome,
     pub checks: u32,
     pub micros: u32,
+    pub role: Role,
 }
 
 // The row of the processor that a message names, or a number from `ROWS` on where it is not on the
@@ -24,13 +27,21 @@ pub fn row_in(board: &[u8; 576], message: &[u8]) -> u8
     row_of(board, byte_at(message, 8))
 }
 
-// A decision that reports no checks: every one but a wait's that ended.
-pub fn unwaited(outcome: Outcome) -> Decision
-    ensures { λ r. ⌜ r ≡ record { outcome = outcome; checks = 0; micros = 0 } ⌝ }
+// A decision with the sender's role: a request that came to N7 or beyond.
+pub fn with_role(outcome: Outcome, role: Role) -> Decision
+    ensures { λ r. ⌜ r ≡ record { outcome = outcome; checks = 0; micros = 0; role = role } ⌝ }
 {
     Decision {
         outcome,
         checks: 0,
         micros: 0,
+        role,
     }
+}
+
+// A decision that reports the outcome alone: every other one but a wait's that ended.
+pub fn outcome_alone(outcome: Outcome) -> Decision
+    ensures { λ r. ⌜ r ≡ record { outcome = outcome; checks = 0; micros = 0; role = None } ⌝ }
+{
+    with_role(outcome, Role::None)
 }

@@ -1,4 +1,4 @@
--- The calls as a C program sees them: the manager's promises, with the papers' numbers for verdict and outcome. Assumes nothing.
+-- The calls as a C program sees them: the manager's promises, with numbers for verdict, outcome and role. Assumes nothing.
 use Prim.Native.Nat.{ℕ}
 use mathlib.Core.Path.{_≡_}
 use mathlib.Core.List.{List, [], _∷_}
@@ -7,6 +7,7 @@ use Rattle.rules.specs.Verdict.{verdictNumber}
 use Rattle.rules.specs.Board.{Board}
 use Rattle.rules.specs.Description.{boardVerdict}
 use Rattle.rules.specs.AccessList.{verdictOf}
+use Rattle.rules.specs.Role.{roleNumber}
 use Rattle.rules.specs.Outcome.{outcomeNumber}
 use Rattle.rules.specs.Answer.{bufferAfter}
 use Rattle.rules.specs.Call.{Answer, answerTo, Lent, queryOf, message, next}
@@ -23,9 +24,9 @@ pub record ExportedList (b : Board) (access bytes access′ : List ℕ) (r : ℕ
   pub verdict : r ≡ verdictNumber (verdictOf b (listedIn access) bytes)
   pub memory : access′ ≡ accessAfter b access bytes
 
--- checks, microseconds and bytes written, in this order
+-- checks, microseconds, bytes written and the role's number, in this order
 abbrev pub reportWords : Report → List ℕ
-reportWords r = r .checks ∷ r .micros ∷ r .written ∷ []
+reportWords r = r .checks ∷ r .micros ∷ r .written ∷ roleNumber (r .role) ∷ []
 
 abbrev pub answered : Board → List ℕ → List ℕ → Lent → Answer
 answered b access memory lent = answerTo (stateIn b access memory) (queryOf lent)

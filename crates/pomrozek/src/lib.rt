@@ -11,6 +11,7 @@ use manager::offer_board;
 use manager::offer_list;
 use manager::start;
 use numbers::outcome_number;
+use numbers::role_number;
 use numbers::verdict_number;
 
 // Fills the board memory with document 01's board, which stands until a description is taken.
@@ -50,7 +51,7 @@ fn narrow(written: usize) -> u32
 }
 
 // Carries out one message and gives the outcome's number: 0 OK, k for Nk, 100 + k for Rk. The checks,
-// the microseconds and the number of bytes written go to `report`.
+// the microseconds, the number of bytes written and the role's number go to `report`.
 #[no_mangle]
 pub extern "C" fn pomrozek_message(
     board: &[u8; 576],
@@ -60,7 +61,7 @@ pub extern "C" fn pomrozek_message(
     request: &[u8],
     status: &[u32],
     answer: &mut [u8],
-    report: &mut [u32; 3],
+    report: &mut [u32; 4],
 ) -> u32
     ensures { λ r. ⌜ ExportedMessage (boardIn (now (board .entry))) (now (access .entry)) (now (records .entry)) (lending channel (now (request .entry)) (now (status .entry)) (now (answer .entry))) (now (records .exit)) (now (answer .exit)) (now (report .exit)) r ⌝ }
 {
@@ -69,6 +70,8 @@ pub extern "C" fn pomrozek_message(
     words[0] = told.checks;
     words[1] = told.micros;
     words[2] = narrow(told.written);
+    let role = told.role;
+    words[3] = role_number(role);
     let outcome = told.outcome;
     outcome_number(outcome)
 }

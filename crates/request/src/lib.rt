@@ -2,39 +2,43 @@
 // from N4 on, in its order; the rows above are passed when it is called. OK changes the record in
 // the lent memory, and a refusal leaves it.
 ghost use mathlib.Core.List.{[]};
-ghost use Rattle.rules.specs.declared.Kind.the-variants.{Request};
 ghost use Rattle.board.specs.Memory.{boardIn};
-ghost use Rattle.operations.specs.Operation.{asked, Carries};
+ghost use Rattle.operations.specs.Operation.{asked, CarriesRequest};
+use access::role_of;
 use board::ROWS;
 use effects::held_by;
+use operations::Decision;
+use operations::outcome_alone;
 use operations::row_in;
+use operations::with_role;
 use records::load;
 use records::store_own;
 use rights::may_request;
 use rules::Outcome;
 
 // Request: the processor is free and the sender permitted, or the sender is its recovery master. The
-// sender controls.
+// sender controls. From N7 on its role is told.
 pub fn request(
     board: &[u8; 576],
     access: &[u16],
     records: &mut [u32; 160],
     channel: u8,
     message: &[u8],
-) -> Outcome
-    ensures { λ r. ⌜ Carries (boardIn (now (board .entry))) Request (now (access .entry)) (now (records .entry)) (asked channel (now (message .entry)) []) (now (records .exit)) r ⌝ }
+) -> Decision
+    ensures { λ r. ⌜ CarriesRequest (boardIn (now (board .entry))) (now (access .entry)) (now (records .entry)) (asked channel (now (message .entry)) []) (now (records .exit)) r ⌝ }
 {
     if message.len() < 9 {
-        return Outcome::N4;
+        return outcome_alone(Outcome::N4);
     }
     let row = row_in(board, message);
     if ROWS <= row {
-        return Outcome::N6;
+        return outcome_alone(Outcome::N6);
     }
+    let role = role_of(board, access, row, channel as u16);
     let state = load(board, &records[..], row);
-    if !may_request(board, access, row, state, channel) {
-        return Outcome::N7;
+    if !may_request(role, state) {
+        return with_role(Outcome::N7, role);
     }
     store_own(records, row, held_by(channel, state));
-    Outcome::Ok
+    with_role(Outcome::Ok, role)
 }

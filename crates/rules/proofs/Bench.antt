@@ -1,31 +1,37 @@
--- The starred cases hold, those of the shared control word and those of board descriptions: one computed check of the three tables. Assumes
--- nothing.
+-- The starred cases hold, those of the shared control word, of board descriptions and of roles: one computed check of the four tables.
+-- Assumes nothing.
 use mathlib.Core.Path.{_≡_, refl}
 use mathlib.Core.List.{List, map}
 use Rattle.rules.specs.Table.{firstOf, anyOf, placeOf, tableOf}
 use Rattle.rules.specs.Verdict.{accepted}
 use Rattle.rules.specs.Board.{boardHost, activeHost, rowOf, onBoard, classAt, classOf, homeAt, maskOf}
 use Rattle.rules.specs.Description.{nothingListed, ourDescription, bodySize, fieldGood, noItem, itemIn, fieldSize, itemsFrom, itemsIn, listsHost, listsProcessor, repeats, otherClass, isFull, itemTable, withItem, itemsTable, descriptionTable, boardVerdict, withItems, descriptionIn, described, markIn, rowIn, classIn, sharedCluster, sharedIn, homeIn, boardOf, ours}
-use Rattle.rules.specs.AccessList.{noEntry, partsFrom, namedIn, entryTable, entriesTable, listTable, verdictOf, entryIn, withPart, withParts, noEntries, entriesOf, hasEntry, isMaster, isSecondary, permitted}
+use Rattle.rules.specs.AccessList.{noEntry, partsFrom, namedIn, entryTable, entriesTable, listTable, verdictOf, entryIn, withPart, withParts, noEntries, entriesOf, hasEntry}
+use Rattle.rules.specs.Role.{namesHost, roleTable, roleOf, permitted}
 use Rattle.rules.specs.Message.{answerAsked, kindOf, waitIn, subjectOf}
 use Rattle.rules.specs.Wait.{runAfter, endsRun, firstEnd, endingCheck, ranOut, checksOf, microsOf}
 use Rattle.rules.specs.Outcome.{senderWrong, wordsMissing, waitFailed, admission, byWords, outcomeTable, outcomeOf, carriedOut, silent}
 use Rattle.rules.specs.Effect.{recordAfter}
-use Rattle.rules.specs.Answer.{ackBytes, bytesFor, answerBytes, answerOf, waited, reportOf}
+use Rattle.rules.specs.Answer.{ackBytes, bytesFor, answerBytes, answerOf, waited, tellsRole, reportOf}
 use Rattle.rules.specs.State.{listed, freeOwn, fresh, entryOf, recordIn, recordOf, viewOf, putIn, stored}
 use Rattle.rules.specs.Call.{verdictTo, taken, afterOffer, afterMessage, answerTo, next}
 use Rattle.rules.specs.Sequence.{run}
 use Rattle.rules.specs.Bench.{Case, givenIn, answerGiven, starred}
 use Rattle.rules.specs.Cluster.{clustered}
 use Rattle.rules.specs.Boards.{hostsFrom, processorsFrom, boarded}
+use Rattle.rules.specs.Roles.{RoleCase, Shown, shownIn, roled}
 
 -- every case of a table gives what it says
 abbrev pub Hold : List Case → Type 0
 Hold cases = map (λ (c : Case). givenIn (run (fresh ours) (c .earlier)) (c .call)) cases ≡ map (λ (c : Case). c .gives) cases
 
-all-hold : Hold starred × Hold clustered × Hold boarded
-unfolding boarded hostsFrom processorsFrom nothingListed bodySize fieldGood noItem itemIn fieldSize itemsFrom itemsIn listsHost repeats otherClass isFull itemTable withItem itemsTable descriptionTable boardVerdict withItems descriptionIn described firstOf anyOf placeOf tableOf ours ourDescription listsProcessor markIn rowIn classIn sharedCluster sharedIn homeIn boardOf boardHost activeHost rowOf onBoard classAt classOf homeAt maskOf noEntry partsFrom namedIn entryTable entriesTable listTable verdictOf accepted entryIn withPart withParts noEntries entriesOf hasEntry isMaster isSecondary permitted answerAsked kindOf waitIn subjectOf runAfter endsRun firstEnd endingCheck ranOut checksOf microsOf senderWrong wordsMissing waitFailed admission byWords outcomeTable outcomeOf carriedOut silent recordAfter ackBytes bytesFor answerBytes answerOf waited reportOf listed freeOwn fresh entryOf recordIn recordOf viewOf putIn stored verdictTo taken afterOffer afterMessage answerTo next run givenIn answerGiven starred clustered
-all-hold = (refl, refl, refl)
+-- and every case of the roles
+abbrev pub Shows : List RoleCase → Type 0
+Shows cases = map (λ (c : RoleCase). shownIn (run (fresh ours) (c .earlier)) (c .call)) cases ≡ map (λ (c : RoleCase). (c .outcome, c .role)) cases
+
+all-hold : Hold starred × Hold clustered × Hold boarded × Shows roled
+unfolding roled shownIn boarded hostsFrom processorsFrom nothingListed bodySize fieldGood noItem itemIn fieldSize itemsFrom itemsIn listsHost repeats otherClass isFull itemTable withItem itemsTable descriptionTable boardVerdict withItems descriptionIn described firstOf anyOf placeOf tableOf ours ourDescription listsProcessor markIn rowIn classIn sharedCluster sharedIn homeIn boardOf boardHost activeHost rowOf onBoard classAt classOf homeAt maskOf noEntry partsFrom namedIn entryTable entriesTable listTable verdictOf accepted entryIn withPart withParts noEntries entriesOf hasEntry namesHost roleTable roleOf permitted answerAsked kindOf waitIn subjectOf runAfter endsRun firstEnd endingCheck ranOut checksOf microsOf senderWrong wordsMissing waitFailed admission byWords outcomeTable outcomeOf carriedOut silent recordAfter ackBytes bytesFor answerBytes answerOf waited tellsRole reportOf listed freeOwn fresh entryOf recordIn recordOf viewOf putIn stored verdictTo taken afterOffer afterMessage answerTo next run givenIn answerGiven starred clustered
+all-hold = (refl, refl, refl, refl)
 
 pub starred-hold : Hold starred
 starred-hold = all-hold .0
@@ -37,3 +43,7 @@ clustered-hold = all-hold .1
 -- document 02, L8
 pub boarded-hold : Hold boarded
 boarded-hold = all-hold .2
+
+-- document 02, L5
+pub roled-show : Shows roled
+roled-show = all-hold .3

@@ -15,10 +15,12 @@ use Rattle.rules.specs.declared.Outcome.the-variants.{Ok}
 use Rattle.rules.specs.declared.Record.{Record}
 use Rattle.rules.specs.Table.{firstOf}
 use Rattle.rules.specs.Board.{Board, activeHost, onBoard}
-use Rattle.rules.specs.AccessList.{Entry, noEntry, hasEntry, isMaster, isSecondary, permitted}
+use Rattle.rules.specs.AccessList.{Entry}
+use Rattle.rules.specs.Role.{roleOf, isMaster, permits, permitted}
 use Rattle.rules.specs.Message.{Query, hostOf, kindIn, sizeOf, namesProcessor, subjectOf, isAbout}
 use Rattle.rules.specs.Outcome.{View, senderWrong, typeUnknown, tooShort, notOffered, isFree, isController, mayRequest, hasRight, operandsGood, admission, byWords, outcomeTable, outcomeOf, carriedOut}
 use Rattle.rules.specs.Effect.{effectOf, recordAfter}
+use Rattle.rules.proofs.Roles.{master-permits}
 use Rattle.rules.proofs.Tests.{decide, clash, and-left, and-right, and-both, or-cases, or-left, or-right, or-false-left, cond-true, cond-false, cleared, passed, firstOf-append}
 
 -- ---- every row of the admission is clear where the outcome is OK
@@ -79,17 +81,6 @@ pub active-not-zero : (b : Board) (h : ℕ) → activeHost b h ≡ true → eqb 
 unfolding activeHost
 active-not-zero b h a = not-true (eqb h 0) (and-left (not (eqb h 0)) _ a)
 
--- the recovery master is permitted
-pub master-permitted : (b : Board) (e : Entry) (h : ℕ) → isMaster e h ≡ true → permitted b e h ≡ true
-unfolding isMaster permitted
-master-permitted b e h m =
-    cond-true _ _ (and-left (hasEntry e) (eqb (e .master) h) m) ∙ or-left (isSecondary e h) m
-
--- without an entry every board host but 0 is permitted
-pub open-permitted : (b : Board) (h : ℕ) → permitted b noEntry h ≡ activeHost b h
-unfolding permitted hasEntry noEntry
-open-permitted b h = refl
-
 -- free, or held by a host that the entry permits
 abbrev pub soundly : Board → Entry → Record → Bool
 soundly b e r = isFree r || permitted b e (r .controller)
@@ -101,10 +92,11 @@ controller-permitted b e r h s z c =
     let is : r .controller ≡ h = eqb-true (r .controller) h c in
     ⊎-elim (λ free. clash (rw is at free) z) (λ p. rw is at p) (or-cases (isFree r) (permitted b e (r .controller)) s)
 
-requester-permitted : (b : Board) (e : Entry) (r : Record) (h : ℕ) → mayRequest b e r h ≡ true → permitted b e h ≡ true
+requester-permitted : (b : Board) (e : Entry) (r : Record) (h : ℕ) → mayRequest (roleOf b e h) r ≡ true → permitted b e h ≡ true
+unfolding permitted
 requester-permitted b e r h m =
-    ⊎-elim (λ p. and-right (isFree r) (permitted b e h) p) (λ p. master-permitted b e h p)
-    (or-cases (isFree r && permitted b e h) (isMaster e h) m)
+    ⊎-elim (λ p. and-right (isFree r) (permits (roleOf b e h)) p) (λ p. master-permits (roleOf b e h) p)
+    (or-cases (isFree r && permits (roleOf b e h)) (isMaster (roleOf b e h)) m)
 
 module _ (v : View) (q : Query) (sound : soundly (v .board) (v .entry) (v .state) ≡ true) where
   -- a right on a processor that is soundly held is a right that its entry names

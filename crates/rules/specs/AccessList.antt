@@ -106,19 +106,19 @@ noEntries = replicate rows noEntry
 unfoldable pub entriesOf : Board → List ℕ → List Entry
 entriesOf b list = withParts b (parts list) noEntries
 
--- ---- who is permitted
+-- ---- who is permitted, in document 01's words. Document 02, L5 restates this over the role (specs/Role.antt), and it comes out the same
 
 unfoldable pub hasEntry : Entry → Bool
 hasEntry e = not (eqb (e .master) 0)
 
 -- without an entry there is no recovery master
-unfoldable pub isMaster : Entry → ℕ → Bool
-isMaster e h = hasEntry e && eqb (e .master) h
+unfoldable pub masterIn01 : Entry → ℕ → Bool
+masterIn01 e h = hasEntry e && eqb (e .master) h
 
 -- a secondary of 0 is unused
-unfoldable pub isSecondary : Entry → ℕ → Bool
-isSecondary e h = not (eqb h 0) && (eqb (e .first) h || eqb (e .second) h || eqb (e .third) h)
+unfoldable pub secondaryIn01 : Entry → ℕ → Bool
+secondaryIn01 e h = not (eqb h 0) && (eqb (e .first) h || eqb (e .second) h || eqb (e .third) h)
 
--- "permitted", 01's term: with an entry its master and its used secondaries, without one every board host but 0
-unfoldable pub permitted : Board → Entry → ℕ → Bool
-permitted b e h = cond (hasEntry e) (isMaster e h || isSecondary e h) (activeHost b h)
+-- with an entry its master and its used secondaries, without one every board host but 0
+unfoldable pub permittedIn01 : Board → Entry → ℕ → Bool
+permittedIn01 b e h = cond (hasEntry e) (masterIn01 e h || secondaryIn01 e h) (activeHost b h)

@@ -6,15 +6,16 @@ use lib.Dec.{eqb}
 use mathlib.Core.List.{List, [], _∷_, _++_}
 use lib.ListN.{length, getD, drop}
 use Rattle.rules.specs.declared.Kind.{Kind}
-use Rattle.rules.specs.declared.Kind.the-variants.{GetStatus, WaitStatus}
+use Rattle.rules.specs.declared.Kind.the-variants.{Request, GetStatus, WaitStatus}
 use Rattle.rules.specs.declared.Outcome.{Outcome}
-use Rattle.rules.specs.declared.Outcome.the-variants.{N9}
+use Rattle.rules.specs.declared.Outcome.the-variants.{N7, N9}
 use Rattle.rules.specs.declared.Record.{Record}
 use Rattle.rules.specs.declared.Report.{Report}
+use Rattle.rules.specs.declared.Role.the-variants.{None}
 use Rattle.rules.specs.Bytes.{byteAt, u32Bytes}
 use Rattle.rules.specs.Message.{Query, answerAsked, isKind, kindIn, processorOf, waitIn}
 use Rattle.rules.specs.Wait.{checksOf, microsOf}
-use Rattle.rules.specs.Outcome.{View, outcomeOf, outcomeNumber, carriedOut, silent}
+use Rattle.rules.specs.Outcome.{View, senderRole, outcomeOf, outcomeNumber, carriedOut, silent}
 
 -- type, host and sequence repeated, and the flags
 abbrev pub headerWith : ℕ → List ℕ → List ℕ
@@ -54,11 +55,19 @@ answerBytes o q r = cond (answerAsked (q .message)) (bytesFor o q r) []
 unfoldable pub answerOf : View → Query → List ℕ
 answerOf v q = answerBytes (outcomeOf v q) q (v .state)
 
+-- carried out, or refused by the row of `refusal`
+abbrev pub okOr : Outcome → Outcome → Bool
+okOr refusal o = carriedOut o || eqb (outcomeNumber o) (outcomeNumber refusal)
+
 -- the outcome carries the checks made and the microseconds where a wait ended, OK or N9
 unfoldable pub waited : Kind → Outcome → Bool
-waited k o = isKind k WaitStatus && (carriedOut o || eqb (outcomeNumber o) (outcomeNumber N9))
+waited k o = isKind k WaitStatus && okOr N9 o
 
--- what the call reports; other outcomes report 0 and 0
+-- the outcome of a request carries the sender's role from N7 on, so for N7 and OK (document 02, L5)
+unfoldable pub tellsRole : Kind → Outcome → Bool
+tellsRole k o = isKind k Request && okOr N7 o
+
+-- what the call reports; other outcomes report 0 and 0 and the role none
 unfoldable pub reportOf : View → Query → Report
 reportOf v q =
     record {
@@ -66,6 +75,7 @@ reportOf v q =
       checks = cond (waited (kindIn (q .message)) (outcomeOf v q)) (checksOf (waitIn (q .message)) (q .status)) 0;
       micros = cond (waited (kindIn (q .message)) (outcomeOf v q)) (microsOf (waitIn (q .message)) (q .status)) 0;
       written = length (answerOf v q);
+      role = cond (tellsRole (kindIn (q .message)) (outcomeOf v q)) (senderRole v q) None;
     }
 
 -- bytes of the answer buffer beyond the answer keep their values

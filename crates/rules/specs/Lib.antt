@@ -6,6 +6,7 @@ pub mod Verdict
 pub mod Board
 pub mod Description
 pub mod AccessList
+pub mod Role
 pub mod Message
 pub mod Flags
 pub mod Wait
@@ -18,3 +19,4 @@ pub mod Sequence
 pub mod Bench
 pub mod Cluster
 pub mod Boards
+pub mod Roles

@@ -10,9 +10,11 @@ use Rattle.rules.specs.declared.Kind.the-variants.{Request, Release, Han
 use Rattle.rules.specs.declared.Outcome.{Outcome}
 use Rattle.rules.specs.declared.Outcome.the-variants.{R1, R2, N1, N2, N3, N4, N5, N6, N7, N8, R3, N9, Ok}
 use Rattle.rules.specs.declared.Record.{Record}
+use Rattle.rules.specs.declared.Role.{Role}
 use Rattle.rules.specs.Table.{Line, _gives_, firstOf}
 use Rattle.rules.specs.Board.{Board, activeHost, onBoard, classOf, configWord, controlWord}
-use Rattle.rules.specs.AccessList.{Entry, isMaster, permitted}
+use Rattle.rules.specs.AccessList.{Entry}
+use Rattle.rules.specs.Role.{roleOf, isMaster, permits, permitted}
 use Rattle.rules.specs.Message.{Query, hostOf, isKind, kindIn, sizeOf, subjectOf, newHostOf, vectorLowOf, configSetOf, configClearOf, controlSetOf, controlClearOf, waitIn}
 use Rattle.rules.specs.Flags.{keepsVector, flagsGood, vectorGood}
 use Rattle.rules.specs.Wait.{waitGood, ranOut}
@@ -62,12 +64,16 @@ isFree r = eqb (r .controller) 0
 abbrev pub isController : Record → ℕ → Bool
 isController r h = eqb (r .controller) h
 
+-- the sender's role for the processor named
+abbrev pub senderRole : View → Query → Role
+senderRole v q = roleOf (v .board) (v .entry) (q .channel)
+
 -- the processor is free and the sender permitted, or the sender is its recovery master
-abbrev pub mayRequest : Board → Entry → Record → ℕ → Bool
-mayRequest b e r h = isFree r && permitted b e h || isMaster e h
+abbrev pub mayRequest : Role → Record → Bool
+mayRequest role r = isFree r && permits role || isMaster role
 
 abbrev pub hasRight : Kind → View → Query → Bool
-hasRight Request v q = mayRequest (v .board) (v .entry) (v .state) (q .channel)
+hasRight Request v q = mayRequest (senderRole v q) (v .state)
 hasRight Release v q = isController (v .state) (q .channel)
 hasRight Handover v q = isController (v .state) (q .channel)
 hasRight SetConfig v q = isController (v .state) (q .channel)

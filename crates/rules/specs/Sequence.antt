@@ -9,7 +9,8 @@ use Rattle.rules.specs.declared.Record.{Record}
 use Rattle.rules.specs.Verdict.{accepted}
 use Rattle.rules.specs.Board.{rows, rowOf, onBoard, homeOf}
 use Rattle.rules.specs.Description.{Good}
-use Rattle.rules.specs.AccessList.{permitted, entriesOf, verdictOf}
+use Rattle.rules.specs.AccessList.{entriesOf, verdictOf}
+use Rattle.rules.specs.Role.{permitted}
 use Rattle.rules.specs.Outcome.{isFree}
 use Rattle.rules.specs.State.{listed, listIn, Setup, State, freeOwn, fresh, entryOf, recordOf}
 use Rattle.rules.specs.Call.{Call, next}

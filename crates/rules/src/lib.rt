@@ -83,11 +83,23 @@ pub struct Wait {
     pub anyclear: u32,
 }
 
-// What a message call reports: the outcome, the checks a wait made and the microseconds it took,
-// and how many bytes were written to the answer buffer.
+// What a host is to a processor: its recovery master, its secondary 0, 1 or 2, a host on a processor that
+// is open since it has no entry, or none of these.
+pub enum Role {
+    None,
+    Master,
+    Secondary0,
+    Secondary1,
+    Secondary2,
+    Open,
+}
+
+// What a message call reports: the outcome, the checks a wait made and the microseconds it took, how many
+// bytes were written to the answer buffer, and the sender's role in a request.
 pub struct Report {
     pub outcome: Outcome,
     pub checks: u32,
     pub micros: u32,
     pub written: usize,
+    pub role: Role,
 }

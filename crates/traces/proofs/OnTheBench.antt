@@ -5,16 +5,18 @@ use mathlib.Core.Path.{refl, subst⁻¹}
 use mathlib.Core.List.{List, [], _∷_, _++_}
 use lib.ListN.{replicate}
 use Rattle.rules.specs.declared.Outcome.the-variants.{Ok}
+use Rattle.rules.specs.declared.Role.the-variants.{Master}
 use Rattle.rules.specs.declared.Verdict.the-variants.{Accepted}
 use Rattle.rules.specs.Table.{firstOf, anyOf, allOf, placeOf, allFrom, tableOf}
 use Rattle.rules.specs.Board.{Board, boardHost, activeHost, rowOf, onBoard, classAt, classOf, homeAt, homeOf, shareControl}
 use Rattle.rules.specs.Description.{ourDescription, listsProcessor, markIn, rowIn, classIn, sharedCluster, sharedIn, homeIn, boardOf, ours}
 use Rattle.rules.specs.Verdict.{accepted}
-use Rattle.rules.specs.AccessList.{noEntry, partsFrom, namedIn, entryTable, entriesTable, listTable, verdictOf, entryIn, withPart, withParts, noEntries, entriesOf, hasEntry, isMaster, isSecondary, permitted}
+use Rattle.rules.specs.AccessList.{noEntry, partsFrom, namedIn, entryTable, entriesTable, listTable, verdictOf, entryIn, withPart, withParts, noEntries, entriesOf, hasEntry}
+use Rattle.rules.specs.Role.{namesHost, roleTable, roleOf, permitted}
 use Rattle.rules.specs.Message.{answerAsked, kindOf, waitIn, subjectOf}
 use Rattle.rules.specs.Outcome.{senderWrong, wordsMissing, waitFailed, admission, byWords, outcomeTable, outcomeOf, carriedOut, silent}
 use Rattle.rules.specs.Effect.{recordAfter}
-use Rattle.rules.specs.Answer.{ackBytes, bytesFor, answerBytes, answerOf, waited, reportOf}
+use Rattle.rules.specs.Answer.{ackBytes, bytesFor, answerBytes, answerOf, waited, tellsRole, reportOf}
 use Rattle.rules.specs.State.{listed, freeOwn, entryOf, recordIn, recordOf, viewOf, putIn, stored}
 use Rattle.rules.specs.Call.{afterMessage, answerTo, Lent, next}
 use Rattle.rules.specs.Bench.{benchList, header}
@@ -63,12 +65,12 @@ asked = lending 3 (0x00 ∷ 0xC0 ∷ 3 ∷ 0x07 ∷ 0x02 ∷ 0x00 ∷ 0x00 ∷ 0
 
 abbrev request-step : Step
 request-step =
-    messageStep asked listed-memories held-memories (record { outcome = Ok; checks = 0; micros = 0; written = 8 })
+    messageStep asked listed-memories held-memories (record { outcome = Ok; checks = 0; micros = 0; written = 8; role = Master })
     (header 0x00 0xC0 3 2 ++ replicate 21 0xFF)
 
 bench-answered : MessageCall ours (accessAfter ours (replicate 129 0) benchList) (replicate 160 0) asked (3 ∷ replicate 159 0) (header 0x00 0xC0 3 2 ++ replicate 21 0xFF)
-    (record { outcome = Ok; checks = 0; micros = 0; written = 8 })
-unfolding tableOf ours ourDescription listsProcessor markIn rowIn classIn sharedCluster sharedIn homeIn boardOf firstOf anyOf boardHost activeHost placeOf rowOf onBoard classAt classOf homeAt noEntry partsFrom namedIn entryTable entriesTable listTable verdictOf accepted entryIn withPart withParts noEntries entriesOf hasEntry isMaster isSecondary permitted answerAsked kindOf waitIn subjectOf senderWrong wordsMissing waitFailed admission byWords outcomeTable outcomeOf carriedOut silent recordAfter ackBytes bytesFor answerBytes answerOf waited reportOf listed freeOwn entryOf recordIn recordOf viewOf putIn stored afterMessage answerTo next listedIn entryAt entriesIn someList setupIn wordsOf accessAfter recordsIn stateIn
+    (record { outcome = Ok; checks = 0; micros = 0; written = 8; role = Master })
+unfolding tableOf ours ourDescription listsProcessor markIn rowIn classIn sharedCluster sharedIn homeIn boardOf firstOf anyOf boardHost activeHost placeOf rowOf onBoard classAt classOf homeAt noEntry partsFrom namedIn entryTable entriesTable listTable verdictOf accepted entryIn withPart withParts noEntries entriesOf hasEntry namesHost roleTable roleOf permitted answerAsked kindOf waitIn subjectOf senderWrong wordsMissing waitFailed admission byWords outcomeTable outcomeOf carriedOut silent recordAfter ackBytes bytesFor answerBytes answerOf waited tellsRole reportOf listed freeOwn entryOf recordIn recordOf viewOf putIn stored afterMessage answerTo next listedIn entryAt entriesIn someList setupIn wordsOf accessAfter recordsIn stateIn
 bench-answered = record { report = refl; records = refl; buffer = refl }
 
 pub bench-trace : Trace listed-memories (request-step ∷ [])
@@ -78,7 +80,7 @@ bench-trace =
       subst⁻¹
           (λ (b : Board).
           MessageCall b (accessAfter ours (replicate 129 0) benchList) (replicate 160 0) asked (3 ∷ replicate 159 0) (header 0x00 0xC0 3 2 ++ replicate 21 0xFF)
-          (record { outcome = Ok; checks = 0; micros = 0; written = 8 }))
+          (record { outcome = Ok; checks = 0; micros = 0; written = 8; role = Master }))
           start-read bench-answered,
       refl,
       refl,

@@ -4,17 +4,19 @@ ghost use Prim.Native.Nat.{_+_, _*_};
 ghost use mathlib.Core.Path.{_≡_};
 ghost use mathlib.Core.Bool.{cond};
 ghost use Rattle.rules.specs.declared.Outcome.the-variants.{N9, Ok};
+ghost use Rattle.rules.specs.declared.Role.the-variants.{None};
 ghost use Rattle.rules.specs.Wait.{ranOut, checksOf, microsOf};
 ghost use Rattle.board.specs.Memory.{boardIn};
 ghost use Rattle.operations.specs.Operation.{asked, WaitsForStatus};
-use access::is_permitted;
 use board::ROWS;
 use messages::wait_in;
 use operands::wait_good;
 use operations::Decision;
+use operations::outcome_alone;
 use operations::row_in;
-use operations::unwaited;
+use rights::is_permitted;
 use rules::Outcome;
+use rules::Role;
 use rules::Wait;
 use status::ending_check;
 
@@ -27,7 +29,7 @@ fn micros(before: u8, delay: u8, checks: u8) -> u32
 
 // What a wait comes to, OK or N9, with the checks that it really took.
 fn waited(w: Wait, status: &[u32]) -> Decision
-    ensures { λ r. ⌜ r ≡ record { outcome = cond (ranOut w (now (status .entry))) N9 Ok; checks = checksOf w (now (status .entry)); micros = microsOf w (now (status .entry)) } ⌝ }
+    ensures { λ r. ⌜ r ≡ record { outcome = cond (ranOut w (now (status .entry))) N9 Ok; checks = checksOf w (now (status .entry)); micros = microsOf w (now (status .entry)); role = None } ⌝ }
 {
     let ended = ending_check(w, status);
     if ended == 0 {
@@ -35,12 +37,14 @@ fn waited(w: Wait, status: &[u32]) -> Decision
             outcome: Outcome::N9,
             checks: w.waits as u32,
             micros: micros(w.before, w.delay, w.waits),
+            role: Role::None,
         };
     }
     Decision {
         outcome: Outcome::Ok,
         checks: ended as u32,
         micros: micros(w.before, w.delay, ended as u8),
+        role: Role::None,
     }
 }
 
@@ -56,21 +60,21 @@ pub fn wait_status(
     ensures { λ r. ⌜ WaitsForStatus (boardIn (now (board .entry))) (now (access .entry)) (asked channel (now (message .entry)) (now (status .entry))) r ⌝ }
 {
     if message.len() < 29 {
-        return unwaited(Outcome::N4);
+        return outcome_alone(Outcome::N4);
     }
     let row = row_in(board, message);
     if ROWS <= row {
-        return unwaited(Outcome::N6);
+        return outcome_alone(Outcome::N6);
     }
     if !is_permitted(board, access, row, channel as u16) {
-        return unwaited(Outcome::N7);
+        return outcome_alone(Outcome::N7);
     }
     let w = wait_in(message);
     if !wait_good(w) {
-        return unwaited(Outcome::N8);
+        return outcome_alone(Outcome::N8);
     }
     if status.len() < w.waits as usize {
-        return unwaited(Outcome::R3);
+        return outcome_alone(Outcome::R3);
     }
     waited(w, status)
 }

@@ -2,9 +2,9 @@
 // rows above are passed when it is called. No record changes, so it gets none.
 ghost use Rattle.board.specs.Memory.{boardIn};
 ghost use Rattle.operations.specs.Operation.{asked, ReadsStatus};
-use access::is_permitted;
 use board::ROWS;
 use operations::row_in;
+use rights::is_permitted;
 use rules::Outcome;
 
 // Get status: the sender is permitted, and there is a status word. No record changes.

@@ -1,4 +1,4 @@
-//! Each list fault, their order, and who is permitted.
+//! Each list fault, their order, and the role of each host.
 
 use super::*;
 
@@ -109,8 +109,70 @@ fn permission_with_and_without_entry() {
     let open: Vec<u16> = permitted(3);
     assert_eq!(with_entry, [3, 5]);
     assert_eq!(open, [3, 4, 5, 6, 10, 12, 13]);
-    assert!(is_recovery_master(&access, 0, 3) && !is_recovery_master(&access, 0, 5));
-    assert!((0..300).all(|h| !is_recovery_master(&access, 3, h)));
+    let masters = |row| (0..300).filter(|&h| is_recovery_master(&board, &access, row, h)).collect();
+    let (with_entry, open): (Vec<u16>, Vec<u16>) = (masters(0), masters(3));
+    assert_eq!((with_entry, open), (vec![3], vec![]));
+}
+
+/// The hosts below 300 that have a role in a row with these words, on the first board.
+fn roles_in(words: [u16; 4]) -> Vec<(u16, Role)> {
+    let mut access = [0; ACCESS_WORDS];
+    row_words_mut(&mut access, 2).copy_from_slice(&words);
+    let role = |host| (host, role_of(&Board::first(), &access, 2, host));
+    (0..300).map(role).filter(|(_, role)| *role != Role::None).collect()
+}
+
+#[test]
+fn role_numbers() {
+    assert_eq!(ROLES.map(Role::number), [0, 1, 2, 3, 4, 5]);
+    assert_eq!(PLACE_ROLES.map(Role::number), [1, 2, 3, 4]);
+}
+
+#[test]
+fn each_place_gives_its_role() {
+    use Role::*;
+    let all = [(3, RecoveryMaster), (4, Secondary0), (5, Secondary1), (6, Secondary2)];
+    assert_eq!(roles_in([3, 4, 5, 6]), all);
+    let open = [3, 4, 5, 6, 10, 12, 13].map(|host| (host, OpenProcessor));
+    assert_eq!(roles_in([0, 0, 0, 0]), open);
+}
+
+#[test]
+fn first_place_of_several_counts() {
+    use Role::*;
+    assert_eq!(roles_in([3, 3, 3, 3]), [(3, RecoveryMaster)]);
+    for words in [[3, 3, 0, 0], [3, 0, 3, 0], [3, 0, 0, 3]] {
+        assert_eq!(roles_in(words), [(3, RecoveryMaster)]);
+    }
+    assert_eq!(roles_in([3, 5, 5, 5]), [(3, RecoveryMaster), (5, Secondary0)]);
+    assert_eq!(roles_in([3, 5, 3, 5]), [(3, RecoveryMaster), (5, Secondary0)]);
+    assert_eq!(roles_in([3, 3, 5, 5]), [(3, RecoveryMaster), (5, Secondary1)]);
+}
+
+#[test]
+fn unused_places_name_nobody_and_are_counted() {
+    use Role::*;
+    assert_eq!(roles_in([3, 0, 5, 0]), [(3, RecoveryMaster), (5, Secondary1)]);
+    assert_eq!(roles_in([3, 0, 0, 6]), [(3, RecoveryMaster), (6, Secondary2)]);
+    assert_eq!(roles_in([3, 5, 0, 6]), [(3, RecoveryMaster), (5, Secondary0), (6, Secondary2)]);
+    assert_eq!(roles_in([3, 0, 0, 0]), [(3, RecoveryMaster)]);
+}
+
+/// In words that no list leaves: the low byte alone names nobody, and a master's word with a low
+/// byte of 0 is an entry. Without a master the secondaries are not looked at.
+#[test]
+fn roles_in_odd_words() {
+    use Role::*;
+    assert_eq!(roles_in([266, 10, 0, 0]), [(10, Secondary0), (266, RecoveryMaster)]);
+    assert_eq!(
+        roles_in([3, 266, 10, 0]),
+        [(3, RecoveryMaster), (10, Secondary1), (266, Secondary0)]
+    );
+    assert_eq!(roles_in([266, 0x0A00, 0xFF0A, 0x010A]), [(266, RecoveryMaster)]);
+    assert_eq!(roles_in([0x0A00, 0, 0, 0]), []);
+    assert_eq!(roles_in([0x0100, 5, 0, 0]), [(5, Secondary0), (256, RecoveryMaster)]);
+    assert_eq!(roles_in([0, 5, 7, 266]), roles_in([0; 4]));
+    assert_eq!(roles_in([7, 9, 0, 0]), [(7, RecoveryMaster), (9, Secondary0)]);
 }
 
 #[test]

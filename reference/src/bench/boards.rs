@@ -49,26 +49,26 @@ pub(super) fn described(case: &Case) -> Case {
     Case { name: format!("{}, on the described board", case.name), steps }
 }
 
-fn named(name: &str, steps: Vec<Step>) -> Case {
+pub(super) fn named(name: &str, steps: Vec<Step>) -> Case {
     Case { name: name.to_string(), steps }
 }
 
-fn board(description: &str, line: &'static str) -> Step {
+pub(super) fn board(description: &str, line: &'static str) -> Step {
     Step::Board { description: bytes_of(description), line }
 }
 
 /// Hosts from number 1 on, not secure.
-fn hosts(count: usize) -> String {
+pub(super) fn hosts(count: usize) -> String {
     (1..=count).map(|number| format!("01 02 00 {number:02X} 00 ")).collect()
 }
 
 /// Processors from number 1 on, ARMv8 and alone.
-fn processors(count: usize) -> String {
+pub(super) fn processors(count: usize) -> String {
     (1..=count).map(|number| format!("02 03 00 {number:02X} 01 00 ")).collect()
 }
 
 /// Two descriptions, one behind the other.
-fn both(first: &str, second: &str) -> String {
+pub(super) fn both(first: &str, second: &str) -> String {
     format!("{first} {second}")
 }
 

@@ -6,9 +6,9 @@ use crate::board::{Board, Class, FIRST_HOSTS, FIRST_PROCESSORS, MOST_HOSTS, ROWS
 use crate::description::{BoardFault, Description, Item, TAG_HOST, TAG_PROCESSOR};
 use crate::harness::situations::Seen;
 use crate::harness::tally::Tally;
-use crate::manager::Call;
+use crate::manager::{Call, Setup};
 use crate::message::HEADER_BYTES;
-use crate::outcome::Outcome;
+use crate::outcome::{Outcome, Report};
 
 /// A description that was offered and what it came to.
 pub struct Offer<'a> {
@@ -172,18 +172,22 @@ pub fn count_list(tally: &mut Tally, listed: &Listed) {
     tally.count(LISTS.map(|(_, test)| test(listed)));
 }
 
-/// A message with its outcome, under which board.
+/// A message with its report, under which board and list.
 pub struct Met<'a> {
-    pub board: &'a Board,
+    pub setup: Setup<'a>,
     pub call: Call<'a>,
-    pub outcome: Outcome,
+    pub report: Report,
 }
 
 impl Met<'_> {
+    pub(super) fn outcome(&self) -> Outcome {
+        self.report.outcome
+    }
+
     /// Whether the sender is refused, though header and channel have the same host other than 0.
     fn unknown_sender(&self) -> bool {
         let same = self.call.message.get(2) == Some(&self.call.channel);
-        self.outcome == Outcome::N2 && same && self.call.channel != 0
+        self.outcome() == Outcome::N2 && same && self.call.channel != 0
     }
 
     fn sender_of_first(&self) -> bool {
@@ -203,10 +207,12 @@ type MetTest = fn(&Met) -> bool;
 
 const REFUSALS: [(&str, MetTest); 4] = [
     ("host of the board before", |m| m.unknown_sender() && m.sender_of_first()),
-    ("processor of the board before", |m| m.outcome == Outcome::N6 && m.processor_of_first()),
-    ("sender on a board without hosts", |m| m.unknown_sender() && m.board.senders().is_empty()),
+    ("processor of the board before", |m| m.outcome() == Outcome::N6 && m.processor_of_first()),
+    ("sender on a board without hosts", |m| {
+        m.unknown_sender() && m.setup.board.senders().is_empty()
+    }),
     ("processor on a board without processors", |m| {
-        m.outcome == Outcome::N6 && m.board.processors().is_empty()
+        m.outcome() == Outcome::N6 && m.setup.board.processors().is_empty()
     }),
 ];
 

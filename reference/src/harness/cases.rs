@@ -1,6 +1,6 @@
 //! Runs the fixed cases: over calls in process, and as recordings.
 
-use crate::access::{accept_list, AccessMemory, ACCESS_WORDS};
+use crate::access::{accept_list, AccessMemory, Role, ACCESS_WORDS};
 use crate::bench::{Case, Step};
 use crate::board::Board;
 use crate::description::take_board;
@@ -28,8 +28,8 @@ pub trait Calls {
     /// Takes a list and gives its line.
     fn list(&self, memory: &mut Memory, list: &[u8]) -> String;
 
-    /// Takes a message and gives its line.
-    fn message(&self, memory: &mut Memory, call: &Call, answer: &mut [u8]) -> String;
+    /// Takes a message and gives its line and the number of the role that it reports.
+    fn message(&self, memory: &mut Memory, call: &Call, answer: &mut [u8]) -> (String, u32);
 }
 
 /// The calls of this crate.
@@ -48,12 +48,12 @@ impl Calls for Model {
         line_of(&Event::List(accept_list(&memory.board, &mut memory.access, list)))
     }
 
-    fn message(&self, memory: &mut Memory, call: &Call, answer: &mut [u8]) -> String {
+    fn message(&self, memory: &mut Memory, call: &Call, answer: &mut [u8]) -> (String, u32) {
         let setup = Setup { board: &memory.board, access: &memory.access };
         let report = handle(setup, &mut memory.records, call, answer);
         let mut bytes = [0; ANSWER_BYTES];
         bytes[..report.written].copy_from_slice(&answer[..report.written]);
-        line_of(&Event::Message(report, bytes))
+        (line_of(&Event::Message(report, bytes)), report.role.number())
     }
 }
 
@@ -63,15 +63,18 @@ fn line_of(event: &Event) -> String {
     String::from_utf8_lossy(&line).trim_end().to_string()
 }
 
-/// Runs a case from the start; says which step gave another line than it has to.
+/// Runs a case from the start; says which step gave another line or role than it has to.
 pub fn run_case(calls: &impl Calls, case: &Case) -> Result<(), String> {
     let board = calls.start();
     let mut memory = Memory { board, access: [0; ACCESS_WORDS], records: [0; RECORD_WORDS] };
     let mut status: &[u32] = &[];
+    let mut told = Role::None.number();
     for (number, step) in case.steps.iter().enumerate() {
         let (given, expected) = match step {
-            Step::Board { description, line } => (calls.board(&mut memory, description), line),
-            Step::List { list, line } => (calls.list(&mut memory, list), line),
+            Step::Board { description, line } => {
+                (calls.board(&mut memory, description), line.to_string())
+            }
+            Step::List { list, line } => (calls.list(&mut memory, list), line.to_string()),
             Step::Status { words } => {
                 status = words;
                 continue;
@@ -79,10 +82,13 @@ pub fn run_case(calls: &impl Calls, case: &Case) -> Result<(), String> {
             Step::Message { channel, message, room, line } => {
                 let call = Call { channel: *channel, message, status };
                 let mut answer = vec![0; *room];
-                (calls.message(&mut memory, &call, &mut answer), line)
+                let (given, role) = calls.message(&mut memory, &call, &mut answer);
+                told = role;
+                (given, line.to_string())
             }
+            Step::Told { role } => (role_line(told), role_line(role.number())),
         };
-        if given != *expected {
+        if given != expected {
             let step = number + 1;
             return Err(format!("{}, step {step}: expected {expected}, given {given}", case.name));
         }
@@ -90,8 +96,12 @@ pub fn run_case(calls: &impl Calls, case: &Case) -> Result<(), String> {
     Ok(())
 }
 
+fn role_line(number: u32) -> String {
+    format!("role {number}")
+}
+
 /// The case as a recording and the lines that it has to give. Steps with another answer buffer are
-/// left out, as a recording cannot say them.
+/// left out, as a recording cannot say them, and roles, which it does not tell.
 pub fn recording_of(case: &Case) -> (Vec<u8>, String) {
     let mut recording = Vec::new();
     let mut lines = String::new();
@@ -101,6 +111,7 @@ pub fn recording_of(case: &Case) -> (Vec<u8>, String) {
             Step::List { list, line } => (field(TAG_LIST, list), *line),
             Step::Status { words } => (status_field(words), ""),
             Step::Message { room, .. } if *room != ANSWER_BYTES => continue,
+            Step::Told { .. } => continue,
             Step::Message { channel, message, line, .. } => {
                 (message_field(*channel, message), *line)
             }

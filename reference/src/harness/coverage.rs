@@ -8,19 +8,25 @@ use crate::description::{BoardFault, BOARD_FAULTS};
 use crate::harness::board_situations::{self, Listed, Met, Offer};
 use crate::harness::clusters::Clusters;
 use crate::harness::goals::{goals, Subject, POSSIBLE, SUBJECTS};
+use crate::harness::role_situations::{count_odd_words, count_places, odd_words, places};
+use crate::harness::roles::RoleCounts;
 use crate::harness::situations::{count_situations, situations, Seen, Watch};
 use crate::harness::tally::Tally;
 use crate::message::HEADER_BYTES;
 use crate::outcome::{Outcome, OUTCOMES};
 use crate::session::{call_of, write_line, Event, Session};
 
-/// How often each combination, situation, verdict and ending was reached, and with which
+/// How often each combination, role, situation, verdict and ending was reached, and with which
 /// processors.
 pub struct Coverage {
     messages: [[[u64; 2]; OUTCOMES.len()]; SUBJECTS],
     /// the processor bytes that were looked up
     processors: BTreeSet<u8>,
+    roles: RoleCounts,
     situations: Tally,
+    places: Tally,
+    /// what only access memories that no list leaves can have
+    odd_words: Tally,
     /// what only boards that no description leaves can have
     oddities: Tally,
     refusals: Tally,
@@ -37,7 +43,10 @@ impl Default for Coverage {
         Coverage {
             messages: [[[0; 2]; OUTCOMES.len()]; SUBJECTS],
             processors: BTreeSet::new(),
+            roles: RoleCounts::default(),
             situations: situations(),
+            places: places(),
+            odd_words: odd_words(),
             oddities: board_situations::oddities(),
             refusals: board_situations::refusals(),
             lists: [0; LIST_FAULTS.len() + 1],
@@ -69,7 +78,7 @@ impl Coverage {
                 Event::Message(report, _) => {
                     let call = call_of(session.body(), &session.status);
                     let seen = watch.see(session.setup(), &before, &call, report);
-                    let met = Met { board: &session.board, call, outcome: report.outcome };
+                    let met = Met { setup: session.setup(), call, report };
                     self.count_message(&met, seen.as_ref());
                 }
                 Event::Board(verdict) => {
@@ -89,13 +98,16 @@ impl Coverage {
     /// Counts one message with its outcome and, if it had a whole order, what was seen of it.
     pub fn count_message(&mut self, met: &Met, seen: Option<&Seen>) {
         let (subject, asked) = Subject::of(met.call.message);
-        self.messages[subject.index()][met.outcome as usize][usize::from(asked)] += 1;
-        if met.outcome >= Outcome::N6 {
+        self.messages[subject.index()][met.outcome() as usize][usize::from(asked)] += 1;
+        self.roles.count(met);
+        if met.outcome() >= Outcome::N6 {
             self.processors.insert(met.call.message[HEADER_BYTES]);
         }
         board_situations::count_refusal(&mut self.refusals, met);
         if let Some(seen) = seen {
             count_situations(&mut self.situations, seen);
+            count_places(&mut self.places, seen);
+            count_odd_words(&mut self.odd_words, seen);
             board_situations::count_oddity(&mut self.oddities, seen);
         }
     }
@@ -123,18 +135,25 @@ impl Coverage {
     }
 
     /// What should have been reached and was not, or was reached and should not have been. R1 and
-    /// boards that no description leaves are expected only of calls to the static library.
+    /// memories that no list or description leaves are expected only of calls to the static
+    /// library.
     pub fn gaps(&self, library: bool) -> Vec<String> {
         let mut gaps = self.message_gaps(library);
         gaps.extend(self.processor_gaps());
         gaps.extend(self.verdict_gaps());
-        for tally in [&self.situations, &self.refusals, &self.listed, &self.offers] {
-            gaps.extend(tally.gaps());
-        }
-        if library {
-            gaps.extend(self.oddities.gaps());
-        }
+        gaps.extend(self.roles.gaps(library));
+        gaps.extend(self.tallies(library).into_iter().flat_map(Tally::gaps));
         gaps
+    }
+
+    /// The tallies of what is expected.
+    fn tallies(&self, library: bool) -> Vec<&Tally> {
+        let mut tallies =
+            vec![&self.situations, &self.places, &self.refusals, &self.listed, &self.offers];
+        if library {
+            tallies.extend([&self.odd_words, &self.oddities]);
+        }
+        tallies
     }
 
     fn message_gaps(&self, with_r1: bool) -> Vec<String> {
@@ -176,8 +195,8 @@ impl Coverage {
         lists.chain(boards.map(|place| format!("board {}: 0", board_verdict(place)))).collect()
     }
 
-    /// A table by outcome: not asked / asked for each type, then the verdicts and the situations
-    /// that are expected.
+    /// A table by outcome: not asked / asked for each type, then the verdicts, the roles and the
+    /// situations that are expected.
     pub fn table(&self, library: bool) -> String {
         let mut text = format!("{:12}", "");
         for outcome in OUTCOMES {
@@ -199,11 +218,8 @@ impl Coverage {
         for (place, count) in self.boards.iter().enumerate() {
             write!(text, " {} {count}", board_verdict(place)).unwrap();
         }
-        let tallies = [&self.situations, &self.refusals, &self.listed, &self.offers];
-        text.push_str(&tallies.map(Tally::table).concat());
-        if library {
-            text.push_str(&self.oddities.table());
-        }
+        text.push_str(&self.roles.table(library));
+        text.extend(self.tallies(library).into_iter().map(Tally::table));
         text
     }
 }
@@ -231,32 +247,35 @@ fn board_place(verdict: Result<(), BoardFault>) -> usize {
 #[cfg(test)]
 mod tests {
     use super::*;
-    use crate::access::ListFault;
+    use crate::access::{ListFault, Role};
     use crate::bench::cases;
     use crate::board::Board;
     use crate::harness::cases::recording_of;
-    use crate::manager::Call;
+    use crate::manager::{Call, Setup};
+    use crate::outcome::Report;
 
-    fn met<'a>(board: &'a Board, message: &'a [u8], outcome: Outcome) -> Met<'a> {
-        Met { board, call: Call { channel: message[2], message, status: &[] }, outcome }
+    fn met<'a>(setup: Setup<'a>, message: &'a [u8], outcome: Outcome) -> Met<'a> {
+        let report = Report { outcome, role: Role::None, checks: 0, microseconds: 0, written: 0 };
+        Met { setup, call: Call { channel: message[2], message, status: &[] }, report }
     }
 
     #[test]
     fn gaps_name_the_missing_and_the_impossible() {
-        let (mut coverage, board) = (Coverage::default(), Board::first());
+        let (mut coverage, board, access) = (Coverage::default(), Board::first(), [0; 129]);
+        let setup = Setup { board: &board, access: &access };
         let all = coverage.gaps(true).len();
-        let tallies = [situations(), board_situations::refusals(), board_situations::lists()];
-        let boards = [board_situations::offers(), board_situations::oddities()];
-        let named: usize = tallies.iter().chain(&boards).map(|tally| tally.gaps().len()).sum();
-        assert_eq!(all, goals().len() + 256 + 9 + 8 + named);
+        let named: usize = coverage.tallies(true).iter().map(|tally| tally.gaps().len()).sum();
+        let roles = coverage.roles.gaps(true).len();
+        assert_eq!(all, goals().len() + 256 + 9 + 8 + roles + named);
         let request = [0, 0xC0, 3, 0, 2, 0, 0, 0, 1];
-        coverage.count_message(&met(&board, &request, Outcome::OK), None);
-        coverage.count_message(&met(&board, &request[..8], Outcome::N4), None);
+        coverage.count_message(&met(setup, &request, Outcome::OK), None);
+        coverage.count_message(&met(setup, &request[..8], Outcome::N4), None);
         coverage.count_list(&Listed { board: &board, list: &[], verdict: Err(ListFault::A8) });
         coverage.count_board(&[3], Err(BoardFault::A1));
-        assert_eq!(coverage.gaps(true).len(), all - 5);
+        // Each message also has the role of its sender, for which every processor is open.
+        assert_eq!(coverage.gaps(true).len(), all - 7);
         let silent = [0, 0xC0, 3, 0, 0, 0, 0, 0, 1];
-        coverage.count_message(&met(&board, &silent, Outcome::N9), None);
+        coverage.count_message(&met(setup, &silent, Outcome::N9), None);
         assert!(coverage.gaps(true).contains(&"Request N9 not asked: 1".to_string()));
     }
 
@@ -271,5 +290,20 @@ mod tests {
         assert!(missing("control set through 33, read through 32: 0"));
         assert!(!missing("control set through 32, 33 free: 0"));
         assert!(missing("control set through 32, 33 of another host: 0"));
+    }
+
+    #[test]
+    fn hosts_in_several_places_are_counted_by_place() {
+        let name = "host in several places";
+        let case = cases().into_iter().find(|case| case.name == name).unwrap();
+        let mut coverage = Coverage::default();
+        coverage.count_recording(&recording_of(&case).0);
+        let missing = |gap: &str| coverage.gaps(true).contains(&gap.to_string());
+        let met = ["secondary 0 and 1", "secondary 0 and 2", "secondary 1 and 2 refused"];
+        assert!(met.iter().all(|gap| !missing(&format!("request by {gap}: 0"))));
+        let not_met = ["secondary 0 and 1 refused", "all secondaries", "secondary 1, 0 unused"];
+        assert!(not_met.iter().all(|gap| missing(&format!("request by {gap}: 0"))));
+        assert!(missing("master's word alike in the low byte: 0"));
+        assert!(missing("Request OK, sender Secondary2: 0"));
     }
 }

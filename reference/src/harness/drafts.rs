@@ -8,7 +8,7 @@ use crate::harness::goals::{Goal, Subject};
 use crate::harness::random::Random;
 use crate::manager::{handle, Call, Setup};
 use crate::message::{Kind, ANSWER_BYTES, HEADER_BYTES, LONGEST_MESSAGE};
-use crate::outcome::Outcome;
+use crate::outcome::{Outcome, Report};
 use crate::record::{Record, RecordMemory};
 
 /// The longest message that a recording can hold.
@@ -36,16 +36,20 @@ pub struct Draft {
 }
 
 impl Draft {
-    /// The outcome in this scene. Nothing is changed.
-    pub fn outcome(&self, scene: &Scene) -> Outcome {
+    /// The report in this scene. Nothing is changed.
+    fn report(&self, scene: &Scene) -> Report {
         let status = self.status.as_deref().unwrap_or(scene.status);
         let call = Call { channel: self.channel, message: &self.message, status };
-        handle(scene.setup, &mut scene.records.clone(), &call, &mut [0; ANSWER_BYTES]).outcome
+        handle(scene.setup, &mut scene.records.clone(), &call, &mut [0; ANSWER_BYTES])
     }
 
     /// Whether the goal is reached. R1 depends on the answer buffer, so any message will do.
     fn reaches(&self, scene: &Scene, goal: Goal) -> bool {
-        goal.outcome == Outcome::R1 || self.outcome(scene) == goal.outcome
+        if goal.outcome == Outcome::R1 {
+            return true;
+        }
+        let report = self.report(scene);
+        report.outcome == goal.outcome && goal.role.is_none_or(|role| report.role == role)
     }
 }
 
@@ -130,15 +134,28 @@ impl Drafter<'_> {
     /// A board host, often one with a part in this row.
     fn sender(&mut self, row: usize) -> u8 {
         let any = self.any_sender();
-        let Setup { board, access } = self.scene.setup;
+        let board = self.scene.setup.board;
         let controller = Record::load(board, self.scene.records, row).controller as u8;
-        let named = self.random.pick(row_words(access, row)) as u8;
+        let named = self.named_host(row);
         let beside = self.controller_in_focus().unwrap_or(controller);
-        let wanted = self.random.pick(&[controller, controller, beside, named, any]);
+        let wanted = match self.goal.role {
+            Some(_) => self.random.pick(&[controller, named, named, any]),
+            None => self.random.pick(&[controller, controller, beside, named, any]),
+        };
         if board.can_send(u16::from(wanted)) {
             wanted
         } else {
             any
+        }
+    }
+
+    /// A host that a word of the row names, or seems to by its low or its high byte.
+    fn named_host(&mut self, row: usize) -> u8 {
+        let [low, high] = self.random.pick(row_words(self.scene.setup.access, row)).to_le_bytes();
+        if high != 0 && self.random.one_in(3) {
+            high
+        } else {
+            low
         }
     }
 
@@ -251,8 +268,7 @@ mod tests {
         let scene = Scene { setup, records: &records, status: &[], focus: &[], most_words: 255 };
         let reachable = |goal: &Goal| !matches!(goal.outcome, Outcome::R1 | Outcome::N1);
         for goal in goals().into_iter().filter(reachable) {
-            let reached =
-                (0..20).any(|_| draft(&mut random, &scene, goal).outcome(&scene) == goal.outcome);
+            let reached = (0..20).any(|_| draft(&mut random, &scene, goal).reaches(&scene, goal));
             assert!(reached, "{goal:?}");
         }
     }

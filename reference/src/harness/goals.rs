@@ -1,6 +1,7 @@
 //! What a message can come to: the combinations of type, outcome and answer asked or not, worked
-//! out from the order of the tests.
+//! out from the order of the tests, and the roles that a request can tell.
 
+use crate::access::Role;
 use crate::board::Board;
 use crate::harness::clusters::Clusters;
 use crate::harness::random::Random;
@@ -65,6 +66,23 @@ pub const POSSIBLE: [(Subject, &[Outcome]); SUBJECTS] = [
     (Subject::Short, &[R1, R2]),
 ];
 
+/// The roles that a request can tell, by its outcome.
+const TOLD: [(Outcome, Role); 10] = [
+    (OK, Role::RecoveryMaster),
+    (OK, Role::Secondary0),
+    (OK, Role::Secondary1),
+    (OK, Role::Secondary2),
+    (OK, Role::OpenProcessor),
+    (N7, Role::Secondary0),
+    (N7, Role::Secondary1),
+    (N7, Role::Secondary2),
+    (N7, Role::OpenProcessor),
+    (N7, Role::None),
+];
+
+/// One goal in this many is such a request.
+const TOLD_EVERY: usize = 10;
+
 /// What a generated message is meant to reach.
 #[derive(Clone, Copy, Debug)]
 pub struct Goal {
@@ -73,21 +91,33 @@ pub struct Goal {
     pub asked: bool,
     /// the processor to name; none for any
     pub processor: Option<u8>,
+    /// the role to be told; none for any
+    pub role: Option<Role>,
 }
 
 impl Goal {
     /// A request that is carried out.
-    pub const REQUEST: Goal =
-        Goal { subject: Subject::Type(Kind::Request), outcome: OK, asked: true, processor: None };
+    pub const REQUEST: Goal = Goal::new(Subject::Type(Kind::Request), OK, true);
 
     /// A status answer, which shows what a record holds.
-    pub const STATUS: Goal =
-        Goal { subject: Subject::Type(Kind::GetStatus), outcome: OK, asked: true, processor: None };
+    pub const STATUS: Goal = Goal::new(Subject::Type(Kind::GetStatus), OK, true);
+
+    /// A message about any processor, from a host in any role.
+    const fn new(subject: Subject, outcome: Outcome, asked: bool) -> Goal {
+        Goal { subject, outcome, asked, processor: None, role: None }
+    }
 
     /// A set control through this processor.
     pub fn set_control(processor: u8, outcome: Outcome) -> Goal {
-        let subject = Subject::Type(Kind::SetControl);
-        Goal { subject, outcome, asked: true, processor: Some(processor) }
+        let goal = Goal::new(Subject::Type(Kind::SetControl), outcome, true);
+        Goal { processor: Some(processor), ..goal }
+    }
+
+    /// A request whose report tells a role.
+    fn any_told(random: &mut Random) -> Goal {
+        let (outcome, role) = random.pick(&TOLD);
+        let asked = random.one_in(2);
+        Goal { role: Some(role), ..Goal::new(Subject::Type(Kind::Request), outcome, asked) }
     }
 
     /// The status answer of another core of the cluster, any of them, if the message has set a
@@ -126,19 +156,21 @@ pub fn goals() -> Vec<Goal> {
     let mut goals = Vec::new();
     for (subject, outcomes) in POSSIBLE {
         for &outcome in outcomes {
-            goals.push(Goal { subject, outcome, asked: false, processor: None });
+            goals.push(Goal::new(subject, outcome, false));
             if subject != Subject::Short {
-                goals.push(Goal { subject, outcome, asked: true, processor: None });
+                goals.push(Goal::new(subject, outcome, true));
             }
         }
     }
     goals
 }
 
-/// One of the goals that pass the test, of which there is at least one.
+/// One of the goals that pass the test, of which there is at least one, or now and then a request
+/// that tells a role.
 pub fn pick_goal(random: &mut Random, goals: &[Goal], test: impl Fn(Outcome) -> bool) -> Goal {
     loop {
-        let goal = random.pick(goals);
+        let goal =
+            if random.one_in(TOLD_EVERY) { Goal::any_told(random) } else { random.pick(goals) };
         if test(goal.outcome) {
             return goal;
         }

@@ -59,9 +59,9 @@ impl Calls for StaticLibrary {
         }
     }
 
-    fn message(&self, memory: &mut Memory, call: &Call, answer: &mut [u8]) -> String {
+    fn message(&self, memory: &mut Memory, call: &Call, answer: &mut [u8]) -> (String, u32) {
         let Memory { board, access, records } = memory;
-        let RawReport { outcome, checks, microseconds, written } =
+        let RawReport { outcome, checks, microseconds, written, role } =
             static_library::message(&board.0, access, records, call, answer);
         let name = match outcome {
             0 => "OK".to_string(),
@@ -72,7 +72,7 @@ impl Calls for StaticLibrary {
             0 => "-".to_string(),
             _ => answer.get(..written as usize).map_or("more than the buffer".into(), hex),
         };
-        format!("{name} {checks} {microseconds} {bytes}")
+        (format!("{name} {checks} {microseconds} {bytes}"), role)
     }
 }
 
@@ -222,7 +222,7 @@ pub fn compare_messages(seed: u64, calls: u64, coverage: &mut Coverage) -> Resul
                 format!("message call {place}: {text}\n{told}")
             })?;
             let seen = watch.see(setup, &before, &trial.call(), report);
-            let met = Met { board: &board, call: trial.call(), outcome: report.outcome };
+            let met = Met { setup, call: trial.call(), report };
             coverage.count_message(&met, seen.as_ref());
             let place = (&board, &clusters);
             look = Goal::look_beside(&mut random, place, &trial.message, report.outcome);
@@ -331,6 +331,7 @@ fn raw(report: &Report) -> RawReport {
         checks: report.checks,
         microseconds: report.microseconds,
         written: report.written as u32,
+        role: report.role.number(),
     }
 }
 

@@ -144,9 +144,14 @@ pub fn odd_host(random: &mut Random, board: &Board) -> u16 {
     }
 }
 
-/// An entry with hosts of the board. One in four secondaries is unused.
+/// An entry with hosts of the board. One in four secondaries is unused. One entry in three has two
+/// hosts at most, so that a host stands in several places.
 fn good_entry(random: &mut Random, senders: &[u16], processor: u8) -> [u8; ENTRY_BYTES] {
     let mut hosts = [0; 4].map(|_: u16| one_of(random, senders));
+    if random.one_in(3) {
+        let pair = [hosts[0], hosts[1]];
+        hosts = hosts.map(|_| random.pick(&pair));
+    }
     for secondary in &mut hosts[1..] {
         if random.one_in(4) {
             *secondary = NO_HOST;

@@ -1,6 +1,6 @@
 //! Lent memories of any content, with guards around them.
 
-use crate::access::{accept_list, AccessMemory, ACCESS_WORDS};
+use crate::access::{accept_list, row_words_mut, AccessMemory, ACCESS_WORDS};
 use crate::board::{flag_mask, Board, Word, BOARD_BYTES, ROWS};
 use crate::description::take_board;
 use crate::harness::clusters::Clusters;
@@ -66,10 +66,26 @@ pub fn any_access(random: &mut Random, board: &Board) -> AccessMemory {
         let host = random.pick(&hosts);
         access[word] = random.pick_or(&[0, 7, near, host], Random::u16);
     }
+    for _ in 0..random.pick(&[0, 1, 2, 4]) {
+        blur_entry(random, board, &mut access);
+    }
     if random.one_in(8) {
         access[0] = 0;
     }
     access
+}
+
+/// Changes a word of some processor's row: to one that has a byte in common with a host of the row
+/// or with no host, or to 0.
+fn blur_entry(random: &mut Random, board: &Board, access: &mut AccessMemory) {
+    let rows: Vec<_> = board.processors().iter().filter_map(|&p| board.row_of(p)).collect();
+    if rows.is_empty() {
+        return;
+    }
+    let words = row_words_mut(access, random.pick(&rows));
+    let word = random.pick(words);
+    let high = (random.between(1, 255) as u16) << 8;
+    words[random.below(words.len())] = random.pick(&[word | high, word | high, word << 8, high, 0]);
 }
 
 /// Record memory of any content: mere noise, or plausible records with some words changed.

@@ -19,6 +19,8 @@ mod operands;
 pub mod program;
 pub mod random;
 pub mod recordings;
+pub mod role_situations;
+pub mod roles;
 pub mod situations;
 pub mod tally;
 pub mod timing;

@@ -1,7 +1,7 @@
 //! Situations inside an outcome that a run has to meet as well, counted by name.
 
-use crate::access::has_entry;
-use crate::board::{Board, Class, ALONE, MOST_HOSTS, ROWS};
+use crate::access::{row_words, Role};
+use crate::board::{Board, Class, ALONE, MOST_HOSTS, NO_HOST, ROWS};
 use crate::harness::clusters::Clusters;
 use crate::harness::tally::Tally;
 use crate::manager::{Call, Setup, GEN_IGN_BOOTVECTOR};
@@ -48,7 +48,7 @@ impl Watch {
             processor,
             row,
             order,
-            has_entry: has_entry(setup.access, row),
+            places: row_words(setup.access, row),
             before: Record::load(board, before, row),
             sharers: board.sharers(processor).into_iter().filter_map(load).collect(),
             changed_through: self.changed_through[board.home_at(row)],
@@ -86,7 +86,8 @@ pub struct Seen<'a> {
     pub(super) processor: u8,
     pub(super) row: usize,
     order: Order,
-    has_entry: bool,
+    /// the master and the secondaries of the row
+    pub(super) places: &'a [u16],
     before: Record,
     /// the other processors that have the control word
     sharers: Vec<Record>,
@@ -103,8 +104,32 @@ impl Seen<'_> {
         self.report.outcome == Outcome::OK
     }
 
+    /// Whether this is a request with this outcome.
+    pub(super) fn was_request(&self, outcome: Outcome) -> bool {
+        self.order == Order::Request && self.report.outcome == outcome
+    }
+
     fn requested(&self) -> bool {
-        self.ok() && self.order == Order::Request
+        self.was_request(Outcome::OK)
+    }
+
+    /// Whether this is a request whose report tells this role.
+    pub(super) fn told(&self, role: Role) -> bool {
+        self.order == Order::Request && self.report.role == role
+    }
+
+    /// Whether the processor had no controller.
+    pub(super) fn was_free(&self) -> bool {
+        self.before.is_free()
+    }
+
+    pub(super) fn has_entry(&self) -> bool {
+        self.places[0] != NO_HOST
+    }
+
+    /// Whether this is a request that took the processor from another host.
+    pub(super) fn taken(&self) -> bool {
+        self.requested() && self.of_another_host(&self.before)
     }
 
     fn handed(&self, to_oneself: bool) -> bool {
@@ -216,18 +241,17 @@ impl Seen<'_> {
 type Test = fn(&Seen) -> bool;
 
 const SITUATIONS: [(&str, Test); 43] = [
-    ("gained while free", |s| s.requested() && s.before.is_free()),
-    ("gained without an entry", |s| s.requested() && !s.has_entry),
+    ("gained while free", |s| s.requested() && s.was_free()),
+    ("gained without an entry", |s| s.requested() && !s.has_entry()),
     ("kept by the recovery master", |s| s.requested() && s.before.is_controlled_by(s.sender)),
-    ("taken by the recovery master", |s| s.requested() && s.of_another_host(&s.before)),
+    ("taken by the recovery master", |s| s.taken()),
     ("released", |s| s.ok() && s.order == Order::Release),
     ("handed to another host", |s| s.handed(false)),
     ("handed to oneself", |s| s.handed(true)),
     ("vector stored", |s| s.configured(true)),
     ("vector kept", |s| s.configured(false)),
     ("requested again, no master", |s| {
-        let again = s.order == Order::Request && s.before.is_controlled_by(s.sender);
-        again && s.report.outcome == Outcome::N7
+        s.was_request(Outcome::N7) && s.before.is_controlled_by(s.sender)
     }),
     ("wait over at the first check", |s| s.waited(Outcome::OK, |_, checks| checks == 1)),
     ("wait over at the last check", |s| {

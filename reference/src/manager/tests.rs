@@ -1,13 +1,14 @@
-//! The message call over memories that lists cannot leave, and the order of its tests.
+//! The message call over memories that lists cannot leave, the order of its tests, and the role
+//! that it reports.
 
 use super::*;
-use crate::access::ACCESS_WORDS;
+use crate::access::{row_words_mut, ACCESS_WORDS, ROLES};
 use crate::bench::bytes_of;
-use crate::harness::drafts::{draft, Scene};
+use crate::harness::drafts::{draft, Draft, Scene};
 use crate::harness::goals::goals;
-use crate::harness::memories::{any_access, any_records};
+use crate::harness::memories::{any_access, any_board, any_records};
 use crate::harness::random::Random;
-use crate::message::Kind;
+use crate::message::{Kind, MSG_PROC_REQUEST};
 use crate::record::RECORD_WORDS;
 
 /// What the bench list leaves.
@@ -272,4 +273,169 @@ fn odd_boards_are_read_as_they_are() {
     assert_eq!(judged("01 C1 4D 01 02 00 00 00 00 00 01 00 00 00 00 00 00"), Outcome::N8);
     assert_eq!(judged("01 C1 4D 01 02 00 00 00 00 02 00 00 00 01 00 00 00"), Outcome::OK);
     assert_eq!(records, records_with(&[(36, 77), (129, 2)]));
+}
+
+/// What `LISTED` leaves, with these words for processor 1.
+fn entry_of(words: [u16; 4]) -> AccessMemory {
+    let mut access = LISTED;
+    row_words_mut(&mut access, 0).copy_from_slice(&words);
+    access
+}
+
+/// Outcome and role of a request of processor 1 by this host, with this controller.
+fn requested(access: AccessMemory, controller: u32, host: u8) -> (Outcome, Role) {
+    let text = format!("00 C0 {host:02X} 01 02 00 00 00 01");
+    let (report, _, _) = run(access, records_with(&[(0, controller)]), &text, &[]);
+    (report.outcome, report.role)
+}
+
+#[test]
+fn request_of_a_free_processor_tells_each_role() {
+    let told = |host| requested(entry_of([3, 4, 5, 6]), 0, host);
+    assert_eq!(told(3), (Outcome::OK, Role::RecoveryMaster));
+    assert_eq!(told(4), (Outcome::OK, Role::Secondary0));
+    assert_eq!(told(5), (Outcome::OK, Role::Secondary1));
+    assert_eq!(told(6), (Outcome::OK, Role::Secondary2));
+    assert_eq!(told(13), (Outcome::N7, Role::None));
+    assert_eq!(requested(entry_of([0; 4]), 0, 13), (Outcome::OK, Role::OpenProcessor));
+}
+
+#[test]
+fn request_of_a_held_processor_tells_each_role() {
+    for controller in [12, 4, 0x103] {
+        let told = |host| requested(entry_of([3, 4, 5, 6]), controller, host);
+        assert_eq!(told(3), (Outcome::OK, Role::RecoveryMaster));
+        assert_eq!(told(4), (Outcome::N7, Role::Secondary0));
+        assert_eq!(told(5), (Outcome::N7, Role::Secondary1));
+        assert_eq!(told(6), (Outcome::N7, Role::Secondary2));
+        assert_eq!(told(13), (Outcome::N7, Role::None));
+        let open = requested(entry_of([0; 4]), controller, 4);
+        assert_eq!(open, (Outcome::N7, Role::OpenProcessor));
+    }
+}
+
+#[test]
+fn request_by_a_host_in_several_places_tells_the_first() {
+    let told = |words, controller, host| requested(entry_of(words), controller, host);
+    for words in [[3, 3, 0, 0], [3, 5, 3, 0], [3, 0, 0, 3], [3, 3, 3, 3]] {
+        assert_eq!(told(words, 5, 3), (Outcome::OK, Role::RecoveryMaster));
+    }
+    assert_eq!(told([3, 5, 5, 5], 0, 5), (Outcome::OK, Role::Secondary0));
+    assert_eq!(told([3, 5, 0, 5], 5, 5), (Outcome::N7, Role::Secondary0));
+    assert_eq!(told([3, 0, 5, 5], 0, 5), (Outcome::OK, Role::Secondary1));
+    assert_eq!(told([3, 0, 0, 5], 3, 5), (Outcome::N7, Role::Secondary2));
+}
+
+#[test]
+fn request_is_told_by_full_words() {
+    let told = |words| requested(entry_of(words), 0, 10);
+    assert_eq!(told([266, 3, 0, 0]), (Outcome::N7, Role::None));
+    assert_eq!(told([3, 266, 266, 266]), (Outcome::N7, Role::None));
+    assert_eq!(told([266, 10, 0, 0]), (Outcome::OK, Role::Secondary0));
+    assert_eq!(told([3, 266, 0, 10]), (Outcome::OK, Role::Secondary2));
+    assert_eq!(told([0x0A00, 0, 0, 0]), (Outcome::N7, Role::None));
+    assert_eq!(told([0, 266, 10, 3]), (Outcome::OK, Role::OpenProcessor));
+    assert_eq!(requested(entry_of([266, 10, 0, 0]), 3, 10), (Outcome::N7, Role::Secondary0));
+}
+
+/// Requests of the recovery master that have every fault at once; each step takes away the first.
+#[test]
+fn request_refused_before_n7_tells_no_role() {
+    let mut access = LISTED;
+    access[0] = 0;
+    let mut message = vec![0, 0xC0, 5, 0, 2, 0, 0, 0, 3];
+    message.resize(61, 0);
+    let mut room = 28;
+    let mut seen = Vec::new();
+    for step in 0..7 {
+        match step {
+            1 => room = 29,
+            2 => message.truncate(8),
+            3 => access[0] = 1,
+            4 => message[2] = 3,
+            5 => message.push(3),
+            6 => message[8] = 1,
+            _ => {}
+        }
+        let call = Call { channel: 3, message: &message, status: &[] };
+        let setup = Setup { board: &Board::first(), access: &access };
+        let report = handle(setup, &mut NO_RECORDS.clone(), &call, &mut vec![0; room]);
+        seen.push((report.outcome, report.role));
+    }
+    use Outcome::*;
+    let mut expected = [R1, R2, N1, N2, N4, N6, OK].map(|outcome| (outcome, Role::None));
+    expected[6].1 = Role::RecoveryMaster;
+    assert_eq!(seen, expected);
+}
+
+/// Messages of the recovery master, which controls the processor or not.
+#[test]
+fn other_messages_tell_no_role() {
+    let messages = [
+        "01 C0 03 01 02 00 00 00 01",
+        "05 C0 03 01 02 00 00 00 01 05",
+        "05 C0 03 01 02 00 00 00 01 06",
+        "00 C1 03 01 02 00 00 00 01 80 00 00 00 00 00 00 00 00 00 00 00 00 00 00 00",
+        "01 C1 03 01 02 00 00 00 01 03 00 00 00 00 00 00 00",
+        "01 C1 03 01 02 00 00 00 01 04 00 00 00 00 00 00 00",
+        "20 C1 03 01 02 00 00 00 01 00 00 00 00 00 00 00",
+        "00 C4 03 01 02 00 00 00 01",
+        "01 C4 03 01 02 00 00 00 01 01 01 00 00 01 00 00 00 00 00 00 00 00 00 00 00 00 00 00 00",
+        "01 C4 03 01 02 00 00 00 01 00 01 00 00 01 00 00 00 00 00 00 00 00 00 00 00 00 00 00 00",
+        "02 C0 03 01 02 00 00 00 01",
+    ];
+    for (controller, status) in [(3, 1), (3, 0), (5, 1), (0, 0)] {
+        for text in messages {
+            let records = records_with(&[(0, controller)]);
+            assert_eq!(run(LISTED, records, text, &[status]).0.role, Role::None, "{text}");
+            assert_eq!(run(LISTED, records, text, &[]).0.role, Role::None, "{text}");
+        }
+    }
+}
+
+/// Whatever the role is: eight bytes that repeat the header, and no more are written.
+#[test]
+fn answers_do_not_tell_the_role() {
+    let answers = |host: u8, controller, words| {
+        let text = format!("00 C0 {host:02X} 01 02 00 00 00 01");
+        let records = records_with(&[(0, controller)]);
+        let (report, _, answer) = run(entry_of(words), records, &text, &[]);
+        (report.role, report.written, answer)
+    };
+    let words = [[3, 0, 0, 0], [5, 3, 0, 0], [5, 0, 3, 0], [5, 0, 0, 3], [0, 0, 0, 0]];
+    let granted = words.map(|words| answers(3, 0, words));
+    assert_eq!(granted.clone().map(|given| given.0), ROLES[1..]);
+    let ack = [bytes_of("00 C0 03 01 02 00 00 00"), vec![0xEE; 32]].concat();
+    assert!(granted.iter().all(|given| (given.1, &given.2) == (8, &ack)));
+    let words = [[5, 4, 0, 0], [5, 3, 0, 0], [5, 0, 3, 0], [5, 0, 0, 3], [0, 0, 0, 0]];
+    let refused = words.map(|words| answers(3, 12, words));
+    let roles = [ROLES[0], ROLES[2], ROLES[3], ROLES[4], ROLES[5]];
+    assert_eq!(refused.clone().map(|given| given.0), roles);
+    let nak = [bytes_of("00 C0 03 01 00 00 00 00"), vec![0xEE; 32]].concat();
+    assert!(refused.iter().all(|given| (given.1, &given.2) == (8, &nak)));
+}
+
+/// Over memories of any content: a request tells the role of its sender from N7 on, and nothing
+/// else tells one.
+#[test]
+fn role_is_told_of_requests_from_n7_on() {
+    let (mut random, goals) = (Random::new(13, 0), goals());
+    for _ in 0..20_000 {
+        let board = any_board(&mut random).board;
+        let access = any_access(&mut random, &board);
+        let mut records = any_records(&mut random, &board);
+        let setup = Setup { board: &board, access: &access };
+        let scene = Scene { setup, records: &records, status: &[], focus: &[], most_words: 255 };
+        let goal = random.pick(&goals);
+        let Draft { channel, message, status } = draft(&mut random, &scene, goal);
+        let call = Call { channel, message: &message, status: &status.unwrap_or_default() };
+        let report = handle(setup, &mut records, &call, &mut [0; ANSWER_BYTES]);
+        let request = message.starts_with(&MSG_PROC_REQUEST.to_le_bytes());
+        let expected = if request && report.outcome >= Outcome::N7 {
+            role_of(&board, &access, board.row_of(message[8]).unwrap(), u16::from(channel))
+        } else {
+            Role::None
+        };
+        assert_eq!(report.role, expected, "{message:x?}");
+    }
 }

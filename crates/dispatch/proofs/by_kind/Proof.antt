@@ -1,10 +1,10 @@
 -- `dispatch::by_kind` meets its contract: each arm is what the function of its type decides and leaves. Assumes nothing.
 use mathlib.Core.Path.{refl, subst⁻¹}
 use denote.Ref.{now}
-use Rattle.rules.specs.declared.Kind.the-variants.{Request, Release, Handover, SetConfig, SetControl}
+use Rattle.rules.specs.declared.Kind.the-variants.{Release, Handover, SetConfig, SetControl}
 use Rattle.dispatch.specs.Dispatched.{DecidesKind}
 use Rattle.operations.proofs.Rows.{told-kind}
-use Rattle.dispatch.proofs.Types.{carried, booted, status-read, status-awaited, unknown}
+use Rattle.dispatch.proofs.Types.{carried, requested, booted, status-read, status-awaited, unknown}
 use borrow.Author.Needs.{needs}
 use Rattle.dispatch.proofs.by_kind.Statement.{statement}
 use Rattle.dispatch.proofs.by_kind.Tie as tie
@@ -21,17 +21,14 @@ enum-told c = search needs
 request-requires : tie.Need-request-requires
 request-requires c κs = search needs
 
-unwaited-requires : tie.Need-unwaited-requires
-unwaited-requires c κs = search needs
-
 enum-told-2 : tie.Need-enum-told-2
 enum-told-2 c = search needs
 
 release-requires : tie.Need-release-requires
 release-requires c κs = search needs
 
-unwaited-requires-2 : tie.Need-unwaited-requires-2
-unwaited-requires-2 c κs = search needs
+outcome-alone-requires : tie.Need-outcome-alone-requires
+outcome-alone-requires c κs = search needs
 
 enum-told-3 : tie.Need-enum-told-3
 enum-told-3 c = search needs
@@ -39,8 +36,8 @@ enum-told-3 c = search needs
 handover-requires : tie.Need-handover-requires
 handover-requires c κs = search needs
 
-unwaited-requires-3 : tie.Need-unwaited-requires-3
-unwaited-requires-3 c κs = search needs
+outcome-alone-requires-2 : tie.Need-outcome-alone-requires-2
+outcome-alone-requires-2 c κs = search needs
 
 enum-told-4 : tie.Need-enum-told-4
 enum-told-4 c = search needs
@@ -48,8 +45,8 @@ enum-told-4 c = search needs
 set-config-requires : tie.Need-set-config-requires
 set-config-requires c κs = search needs
 
-unwaited-requires-4 : tie.Need-unwaited-requires-4
-unwaited-requires-4 c κs = search needs
+outcome-alone-requires-3 : tie.Need-outcome-alone-requires-3
+outcome-alone-requires-3 c κs = search needs
 
 enum-told-5 : tie.Need-enum-told-5
 enum-told-5 c = search needs
@@ -57,8 +54,8 @@ enum-told-5 c = search needs
 set-control-requires : tie.Need-set-control-requires
 set-control-requires c κs = search needs
 
-unwaited-requires-5 : tie.Need-unwaited-requires-5
-unwaited-requires-5 c κs = search needs
+outcome-alone-requires-4 : tie.Need-outcome-alone-requires-4
+outcome-alone-requires-4 c κs = search needs
 
 enum-told-6 : tie.Need-enum-told-6
 enum-told-6 c = search needs
@@ -66,8 +63,8 @@ enum-told-6 c = search needs
 authenticated-boot-requires : tie.Need-authenticated-boot-requires
 authenticated-boot-requires c κs = search needs
 
-unwaited-requires-6 : tie.Need-unwaited-requires-6
-unwaited-requires-6 c κs = search needs
+outcome-alone-requires-5 : tie.Need-outcome-alone-requires-5
+outcome-alone-requires-5 c κs = search needs
 
 enum-told-7 : tie.Need-enum-told-7
 enum-told-7 c = search needs
@@ -75,8 +72,8 @@ enum-told-7 c = search needs
 get-status-requires : tie.Need-get-status-requires
 get-status-requires c κs = search needs
 
-unwaited-requires-7 : tie.Need-unwaited-requires-7
-unwaited-requires-7 c κs = search needs
+outcome-alone-requires-6 : tie.Need-outcome-alone-requires-6
+outcome-alone-requires-6 c κs = search needs
 
 enum-told-8 : tie.Need-enum-told-8
 enum-told-8 c = search needs
@@ -87,56 +84,55 @@ wait-status-requires c κs = search needs
 enum-told-9 : tie.Need-enum-told-9
 enum-told-9 c = search needs
 
-unwaited-requires-8 : tie.Need-unwaited-requires-8
-unwaited-requires-8 c κs = search needs
+outcome-alone-requires-7 : tie.Need-outcome-alone-requires-7
+outcome-alone-requires-7 c κs = search needs
 
 returns : tie.Need-returns
 returns c =
-    let a = c .before .before .before .before .before .before .before .before .before .before .args in
-    let is = told-kind (now (a .message)) (c .before .before .before .before .before .kind-of .ensures) (c .before .before .before .before .before .before .u16-at .ensures) (c .before .before .before .enum-told .given .1) in
-    subst⁻¹ (DecidesKind _ (now (a .access)) (now (a .records)) _ _) (c .unwaited .ensures)
-    (carried _ (now (a .access)) (now (a .records)) (a .channel) (now (a .message)) (now (a .status)) Request _ _ is refl refl refl (c .before .request .ensures))
+    let a = c .before .before .before .before .before .before .before .before .before .args in
+    let is = told-kind (now (a .message)) (c .before .before .before .before .kind-of .ensures) (c .before .before .before .before .before .u16-at .ensures) (c .before .before .enum-told .given .1) in
+    requested _ (now (a .access)) (now (a .records)) (a .channel) (now (a .message)) (now (a .status)) _ _ is (c .request .ensures)
 
 returns-2 : tie.Need-returns-2
 returns-2 c =
     let a = c .before .before .before .before .before .before .before .before .before .before .args in
     let is = told-kind (now (a .message)) (c .before .before .before .before .before .kind-of .ensures) (c .before .before .before .before .before .before .u16-at .ensures) (c .before .before .before .enum-told2 .given .1) in
-    subst⁻¹ (DecidesKind _ (now (a .access)) (now (a .records)) _ _) (c .unwaited2 .ensures)
-    (carried _ (now (a .access)) (now (a .records)) (a .channel) (now (a .message)) (now (a .status)) Release _ _ is refl refl refl (c .before .release .ensures (now (a .access))))
+    subst⁻¹ (DecidesKind _ (now (a .access)) (now (a .records)) _ _) (c .outcome-alone .ensures)
+    (carried _ (now (a .access)) (now (a .records)) (a .channel) (now (a .message)) (now (a .status)) Release _ _ is refl refl refl refl (c .before .release .ensures (now (a .access))))
 
 returns-3 : tie.Need-returns-3
 returns-3 c =
     let a = c .before .before .before .before .before .before .before .before .before .before .args in
     let is = told-kind (now (a .message)) (c .before .before .before .before .before .kind-of .ensures) (c .before .before .before .before .before .before .u16-at .ensures) (c .before .before .before .enum-told3 .given .1) in
-    subst⁻¹ (DecidesKind _ (now (a .access)) (now (a .records)) _ _) (c .unwaited3 .ensures)
-    (carried _ (now (a .access)) (now (a .records)) (a .channel) (now (a .message)) (now (a .status)) Handover _ _ is refl refl refl (c .before .handover .ensures))
+    subst⁻¹ (DecidesKind _ (now (a .access)) (now (a .records)) _ _) (c .outcome-alone2 .ensures)
+    (carried _ (now (a .access)) (now (a .records)) (a .channel) (now (a .message)) (now (a .status)) Handover _ _ is refl refl refl refl (c .before .handover .ensures))
 
 returns-4 : tie.Need-returns-4
 returns-4 c =
     let a = c .before .before .before .before .before .before .before .before .before .before .args in
     let is = told-kind (now (a .message)) (c .before .before .before .before .before .kind-of .ensures) (c .before .before .before .before .before .before .u16-at .ensures) (c .before .before .before .enum-told4 .given .1) in
-    subst⁻¹ (DecidesKind _ (now (a .access)) (now (a .records)) _ _) (c .unwaited4 .ensures)
-    (carried _ (now (a .access)) (now (a .records)) (a .channel) (now (a .message)) (now (a .status)) SetConfig _ _ is refl refl refl (c .before .set-config .ensures (now (a .access))))
+    subst⁻¹ (DecidesKind _ (now (a .access)) (now (a .records)) _ _) (c .outcome-alone3 .ensures)
+    (carried _ (now (a .access)) (now (a .records)) (a .channel) (now (a .message)) (now (a .status)) SetConfig _ _ is refl refl refl refl (c .before .set-config .ensures (now (a .access))))
 
 returns-5 : tie.Need-returns-5
 returns-5 c =
     let a = c .before .before .before .before .before .before .before .before .before .before .args in
     let is = told-kind (now (a .message)) (c .before .before .before .before .before .kind-of .ensures) (c .before .before .before .before .before .before .u16-at .ensures) (c .before .before .before .enum-told5 .given .1) in
-    subst⁻¹ (DecidesKind _ (now (a .access)) (now (a .records)) _ _) (c .unwaited5 .ensures)
-    (carried _ (now (a .access)) (now (a .records)) (a .channel) (now (a .message)) (now (a .status)) SetControl _ _ is refl refl refl (c .before .set-control .ensures (now (a .access))))
+    subst⁻¹ (DecidesKind _ (now (a .access)) (now (a .records)) _ _) (c .outcome-alone4 .ensures)
+    (carried _ (now (a .access)) (now (a .records)) (a .channel) (now (a .message)) (now (a .status)) SetControl _ _ is refl refl refl refl (c .before .set-control .ensures (now (a .access))))
 
 returns-6 : tie.Need-returns-6
 returns-6 c =
     let a = c .before .before .before .before .before .before .before .before .before .args in
     let is = told-kind (now (a .message)) (c .before .before .before .before .kind-of .ensures) (c .before .before .before .before .before .u16-at .ensures) (c .before .before .enum-told6 .given .1) in
-    subst⁻¹ (DecidesKind _ (now (a .access)) (now (a .records)) _ _) (c .unwaited6 .ensures)
+    subst⁻¹ (DecidesKind _ (now (a .access)) (now (a .records)) _ _) (c .outcome-alone5 .ensures)
     (booted _ (now (a .access)) (now (a .records)) (a .channel) (now (a .message)) (now (a .status)) _ is (c .before .authenticated-boot .ensures))
 
 returns-7 : tie.Need-returns-7
 returns-7 c =
     let a = c .before .before .before .before .before .before .before .before .before .args in
     let is = told-kind (now (a .message)) (c .before .before .before .before .kind-of .ensures) (c .before .before .before .before .before .u16-at .ensures) (c .before .before .enum-told7 .given .1) in
-    subst⁻¹ (DecidesKind _ (now (a .access)) (now (a .records)) _ _) (c .unwaited7 .ensures)
+    subst⁻¹ (DecidesKind _ (now (a .access)) (now (a .records)) _ _) (c .outcome-alone6 .ensures)
     (status-read _ (now (a .access)) (now (a .records)) (a .channel) (now (a .message)) (now (a .status)) _ is (c .before .get-status .ensures))
 
 returns-8 : tie.Need-returns-8
@@ -149,7 +145,7 @@ returns-9 : tie.Need-returns-9
 returns-9 c =
     let a = c .before .before .before .before .before .before .before .before .args in
     let is = told-kind (now (a .message)) (c .before .before .before .kind-of .ensures) (c .before .before .before .before .u16-at .ensures) (c .before .enum-told9 .given .1) in
-    subst⁻¹ (DecidesKind _ (now (a .access)) (now (a .records)) _ _) (c .unwaited8 .ensures)
+    subst⁻¹ (DecidesKind _ (now (a .access)) (now (a .records)) _ _) (c .outcome-alone7 .ensures)
     (unknown _ (now (a .access)) (now (a .records)) (a .channel) (now (a .message)) (now (a .status)) is)
 
 pub by-kind-spec : {M : Type 1} → statement M
@@ -160,29 +156,28 @@ by-kind-spec =
     kind-of-requires
     enum-told
     request-requires
-    unwaited-requires
     enum-told-2
     release-requires
-    unwaited-requires-2
+    outcome-alone-requires
     enum-told-3
     handover-requires
-    unwaited-requires-3
+    outcome-alone-requires-2
     enum-told-4
     set-config-requires
-    unwaited-requires-4
+    outcome-alone-requires-3
     enum-told-5
     set-control-requires
-    unwaited-requires-5
+    outcome-alone-requires-4
     enum-told-6
     authenticated-boot-requires
-    unwaited-requires-6
+    outcome-alone-requires-5
     enum-told-7
     get-status-requires
-    unwaited-requires-7
+    outcome-alone-requires-6
     enum-told-8
     wait-status-requires
     enum-told-9
-    unwaited-requires-8
+    outcome-alone-requires-7
     returns
     returns-2
     returns-3

@@ -4,7 +4,7 @@ use mathlib.Core.Path.{_≡_, refl, ap, _∙_}
 use mathlib.Core.List.{[]}
 use denote.Ref.{now}
 use Rattle.rules.specs.declared.Kind.the-variants.{Handover}
-use Rattle.rules.specs.AccessList.{permitted}
+use Rattle.rules.specs.Role.{permitted}
 use Rattle.rules.specs.Message.{Query, newHostOf}
 use Rattle.rules.specs.Effect.{heldBy}
 use Rattle.access.specs.Memory.{entryAt}

@@ -1,7 +1,7 @@
 -- `pomrozek_message` meets its contract: the message call, with the outcome's number and the rest of the report as words. Assumes
 -- nothing.
 use Prim.Native.Nat.{ℕ, _≤_}
-use mathlib.Core.Path.{_≡_, refl, ap, _∙_, subst⁻¹}
+use mathlib.Core.Path.{_≡_, refl, ap, ap₂, _∙_, subst⁻¹}
 use mathlib.Core.List.{List, [], _∷_}
 use native.Mathlib.Omega.{arith}
 use lib.ListN.{length, set, length-set}
@@ -14,13 +14,14 @@ use borrow.Author.Needs.{needs}
 use Rattle.pomrozek.proofs.pomrozek_message.Statement.{statement}
 use Rattle.pomrozek.proofs.pomrozek_message.Tie as tie
 
--- three words stored in a list of three
-three : (l : List ℕ) (a b d : ℕ) → length l ≡ 3 → set (set (set l 0 a) 1 b) 2 d ≡ a ∷ b ∷ d ∷ []
-three [] a b d n = absurd (let z : _≡_ {A = ℕ} 0 3 = n in omega arith)
-three (x ∷ []) a b d n = absurd (let z : _≡_ {A = ℕ} 1 3 = n in omega arith)
-three (x ∷ y ∷ []) a b d n = absurd (let z : _≡_ {A = ℕ} 2 3 = n in omega arith)
-three (x ∷ y ∷ z ∷ []) a b d n = refl
-three (x ∷ y ∷ z ∷ w ∷ l) a b d n = absurd (let q : _≡_ {A = ℕ} (length (x ∷ y ∷ z ∷ w ∷ l)) 3 = n in omega arith)
+-- four words stored in a list of four
+four : (l : List ℕ) (a b d e : ℕ) → length l ≡ 4 → set (set (set (set l 0 a) 1 b) 2 d) 3 e ≡ a ∷ b ∷ d ∷ e ∷ []
+four [] a b d e n = absurd (let z : _≡_ {A = ℕ} 0 4 = n in omega arith)
+four (x ∷ []) a b d e n = absurd (let z : _≡_ {A = ℕ} 1 4 = n in omega arith)
+four (x ∷ y ∷ []) a b d e n = absurd (let z : _≡_ {A = ℕ} 2 4 = n in omega arith)
+four (x ∷ y ∷ z ∷ []) a b d e n = absurd (let q : _≡_ {A = ℕ} 3 4 = n in omega arith)
+four (x ∷ y ∷ z ∷ w ∷ []) a b d e n = refl
+four (x ∷ y ∷ z ∷ w ∷ v ∷ l) a b d e n = absurd (let q : _≡_ {A = ℕ} (length (x ∷ y ∷ z ∷ w ∷ v ∷ l)) 4 = n in omega arith)
 
 message-requires : tie.Need-message-requires
 message-requires c κs = search needs
@@ -38,6 +39,12 @@ narrow-requires c κs =
 slice-write-words-3 : tie.Need-slice-write-words-3
 slice-write-words-3 c = simp length-set (omega arith)
 
+role-number-requires : tie.Need-role-number-requires
+role-number-requires c κs = search needs
+
+slice-write-words-4 : tie.Need-slice-write-words-4
+slice-write-words-4 c = simp length-set (omega arith)
+
 outcome-number-requires : tie.Need-outcome-number-requires
 outcome-number-requires c κs = search needs
 
@@ -46,13 +53,14 @@ same-length c = search needs
 
 returns : tie.Need-returns
 returns c =
-    let a = c .before .before .before .before .before .before .before .before .before .before .before .args in
-    let told = c .before .before .before .before .before .message .ensures in
+    let a = c .before .before .before .before .before .before .before .before .before .before .before .before .args in
+    let m = c .before .before .before .before .before .before .message in
+    let told = m .ensures in
     record {
       outcome = c .outcome-number .ensures ∙ ap (λ (r : Report). outcomeNumber (r .outcome)) (told .report);
       report =
-          ap (λ (n : ℕ). set (set (set (now (a .report)) 0 (c .before .before .before .before .before .message .result .checks)) 1 (c .before .before .before .before .before .message .result .micros)) 2 n) (c .before .narrow .ensures)
-          ∙ three (now (a .report)) _ _ _ (search needs)
+          ap₂ (λ (n k : ℕ). set (set (set (set (now (a .report)) 0 (m .result .checks)) 1 (m .result .micros)) 2 n) 3 k) (c .before .before .narrow .ensures) (c .before .role-number .ensures)
+          ∙ four (now (a .report)) _ _ _ _ (search needs)
           ∙ ap reportWords (told .report);
       records = told .records;
       buffer = told .buffer;
@@ -67,6 +75,8 @@ pomrozek-message-spec =
     slice-write-words-2
     narrow-requires
     slice-write-words-3
+    role-number-requires
+    slice-write-words-4
     outcome-number-requires
     same-length
     returns)

@@ -1,37 +1,61 @@
--- `request::request` meets its contract: N4, N6 and N7 by a law for each, and the sender controls. Assumes nothing.
-use mathlib.Core.Path.{refl}
+-- `request::request` meets its contract: N4, N6 and N7 by a law for each, and the sender controls; from N7 on with its role. Assumes nothing.
+use mathlib.Core.Path.{_≡_, refl, ap, _∙_}
 use mathlib.Core.List.{[]}
 use denote.Ref.{now}
 use Rattle.rules.specs.declared.Kind.the-variants.{Request}
+use Rattle.rules.specs.declared.Role.{Role}
+use Rattle.rules.specs.Role.{roleOf}
 use Rattle.rules.specs.Message.{Query}
+use Rattle.rules.specs.Outcome.{mayRequest, carriedOut}
+use Rattle.access.specs.Memory.{entryAt}
 use Rattle.board.specs.Memory.{boardIn}
 use Rattle.operations.specs.Operation.{asked}
-use Rattle.operations.proofs.Rows.{Loaded, loaded-at, too-short, off-board, lacks-right, admitted, refuses, carries-own}
+use Rattle.operations.proofs.Rows.{Loaded, loaded-at, too-short, off-board, lacks-right, admitted, refuses, carries-own, requests-early, requests-late}
 use borrow.Author.Needs.{needs}
 use Rattle.request.proofs.request.Statement.{statement}
 use Rattle.request.proofs.request.Tie as tie
 
 abbrev start : tie.After-load → tie.Start
-start c = c .before .before .before .before .before .before .before .before
+start c = c .before .before .before .before .before .before .before .before .before
 
 abbrev asks : tie.After-load → Query
 asks c = asked (start c .args .channel) (now (start c .args .message)) []
 
 at-N7 : (c : tie.After-load)
-    → Loaded (boardIn (now (start c .args .board))) Request (asks c) (now (start c .args .records)) (c .before .before .before .before .row-in .result) (c .load .result)
+    → Loaded (boardIn (now (start c .args .board))) Request (asks c) (now (start c .args .records)) (c .before .before .before .before .before .row-in .result) (c .load .result)
 at-N7 c =
-    loaded-at (c .before .before .before .before .before .if1 .left) refl (c .before .before .before .before .row-in .ensures)
-    (c .before .before .before .if2 .left)
+    loaded-at (c .before .before .before .before .before .before .if1 .left) refl (c .before .before .before .before .before .row-in .ensures)
+    (c .before .before .before .before .if2 .left)
     (c .load .ensures)
 
+-- the right by the role that was found
+right : (c : tie.After-may-request)
+    → let l = c .before in
+    c .may-request .result
+    ≡ mayRequest (roleOf (boardIn (now (start l .args .board))) (entryAt (now (start l .args .access)) (l .before .before .before .before .before .row-in .result)) (start l .args .channel)) (l .load .result)
+right c = c .may-request .ensures ∙ ap (λ (role : Role). mayRequest role (c .before .load .result)) (c .before .before .before .before .role-of .ensures)
+
+outcome-alone-requires : tie.Need-outcome-alone-requires
+outcome-alone-requires c κs = search needs
+
 returns : tie.Need-returns
-returns c = refuses (too-short (c .if1 .taken))
+unfolding carriedOut
+returns c = requests-early (refuses (too-short (c .before .if1 .taken))) refl (c .outcome-alone .ensures)
 
 row-in-requires : tie.Need-row-in-requires
 row-in-requires c κs = search needs
 
+outcome-alone-requires-2 : tie.Need-outcome-alone-requires-2
+outcome-alone-requires-2 c κs = search needs
+
 returns-2 : tie.Need-returns-2
-returns-2 c = refuses (off-board (c .before .before .if1 .left) refl (c .before .row-in .ensures) (c .if2 .taken))
+unfolding carriedOut
+returns-2 c =
+    requests-early (refuses (off-board (c .before .before .before .if1 .left) refl (c .before .before .row-in .ensures) (c .before .if2 .taken))) refl
+    (c .outcome-alone2 .ensures)
+
+role-of-requires : tie.Need-role-of-requires
+role-of-requires c κs = search needs
 
 load-requires : tie.Need-load-requires
 load-requires c κs = search needs
@@ -39,9 +63,16 @@ load-requires c κs = search needs
 may-request-requires : tie.Need-may-request-requires
 may-request-requires c κs = search needs
 
+with-role-requires : tie.Need-with-role-requires
+with-role-requires c κs = search needs
+
 returns-3 : tie.Need-returns-3
+unfolding carriedOut
 returns-3 c =
-    refuses (lacks-right (at-N7 (c .before .before) .reached) (c .before .may-request .ensures) (c .if3 .taken))
+    let d = c .before .before in
+    let l = at-N7 (d .before) in
+    requests-late l (refuses (lacks-right (l .reached) (right d) (c .before .if3 .taken))) refl (d .before .before .before .before .role-of .ensures)
+    (c .with-role .ensures)
 
 held-by-requires : tie.Need-held-by-requires
 held-by-requires c κs = search needs
@@ -49,26 +80,39 @@ held-by-requires c κs = search needs
 store-own-requires : tie.Need-store-own-requires
 store-own-requires c κs = search needs
 
+with-role-requires-2 : tie.Need-with-role-requires-2
+with-role-requires-2 c κs = search needs
+
 returns-4 : tie.Need-returns-4
+unfolding carriedOut
 returns-4 c =
-    let d = c .before .before .before in
-    let l = at-N7 (d .before .before) in
-    carries-own refl refl l
-    (admitted (l .reached) (d .before .may-request .ensures) (d .if3 .left) refl refl)
-    (c .before .held-by .ensures)
+    let d = c .before .before .before .before .before in
+    let l = at-N7 (d .before) in
+    requests-late l
+    (carries-own refl refl l
+    (admitted (l .reached) (right d) (c .before .before .before .before .if3 .left) refl refl)
+    (c .before .before .held-by .ensures)
     (λ r. refl)
-    (c .store-own .ensures)
+    (c .before .store-own .ensures))
+    refl
+    (d .before .before .before .before .role-of .ensures)
+    (c .with-role2 .ensures)
 
 pub request-spec : {M : Type 1} → statement M
 request-spec =
     tie.close
     (tie.spec
+    outcome-alone-requires
     returns
     row-in-requires
+    outcome-alone-requires-2
     returns-2
+    role-of-requires
     load-requires
     may-request-requires
+    with-role-requires
     returns-3
     held-by-requires
     store-own-requires
+    with-role-requires-2
     returns-4)

@@ -24,8 +24,8 @@ returns c =
     let out = eq-eqb _ 0 (sym (c .before .before .before .ending-check .ensures) ∙ c .before .before .if1 .taken) in
     rw (out, c .micros .ensures)
 
-cast-t9 : tie.Need-cast-t9
-cast-t9 c =
+cast-t10 : tie.Need-cast-t10
+cast-t10 c =
     let within = ending-within (c .before .before .before .args .w) (now (c .before .before .before .args .status)) in
     omega (arith, c .before .ending-check .ensures)
 
@@ -52,7 +52,7 @@ waited-spec =
     cast-t6
     micros-requires
     returns
-    cast-t9
+    cast-t10
     cast-micros
     micros-requires-2
     returns-2)

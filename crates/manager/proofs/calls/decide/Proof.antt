@@ -18,8 +18,8 @@ enum-told c = search needs
 by-kind-requires : tie.Need-by-kind-requires
 by-kind-requires c κs = search needs
 
-unwaited-requires : tie.Need-unwaited-requires
-unwaited-requires c κs = search needs
+outcome-alone-requires : tie.Need-outcome-alone-requires
+outcome-alone-requires c κs = search needs
 
 returns : tie.Need-returns
 returns c =
@@ -32,7 +32,7 @@ returns c =
 returns-2 : tie.Need-returns-2
 returns-2 c =
     let a = c .before .before .before .before .before .before .args in
-    subst⁻¹ (Decides _ (now (a .access)) (now (a .records)) _ _) (c .unwaited .ensures)
+    subst⁻¹ (Decides _ (now (a .access)) (now (a .records)) _ _) (c .outcome-alone .ensures)
     (refused-first _ (now (a .access)) (now (a .records)) (a .channel) (now (a .message)) (now (a .status)) (a .room)
     (c .before .before .admit .ensures)
     (λ ok. miss (0 ∷ 1 ∷ 2 ∷ 3 ∷ 4 ∷ 5 ∷ 6 ∷ 7 ∷ 8 ∷ 9 ∷ 10 ∷ 11 ∷ []) 12 tt (rw ok at (c .before .match .keys2))))
@@ -40,4 +40,4 @@ returns-2 c =
 pub decide-spec : {M : Type 1} → statement M
 decide-spec =
     tie.close
-    (tie.spec admit-requires enum-told by-kind-requires unwaited-requires returns returns-2)
+    (tie.spec admit-requires enum-told by-kind-requires outcome-alone-requires returns returns-2)
