@@ -8,13 +8,13 @@ use access::role_of;
 use board::ROWS;
 use effects::held_by;
 use operations::Decision;
-use operations::outcome_alone;
 use operations::row_in;
 use operations::with_role;
 use records::load;
 use records::store_own;
 use rights::may_request;
 use rules::Outcome;
+use rules::Role;
 
 // Request: the processor is free and the sender permitted, or the sender is its recovery master. The
 // sender controls. From N7 on its role is told.
@@ -28,11 +28,11 @@ pub fn request(
     ensures { λ r. ⌜ CarriesRequest (boardIn (now (board .entry))) (now (access .entry)) (now (records .entry)) (asked channel (now (message .entry)) []) (now (records .exit)) r ⌝ }
 {
     if message.len() < 9 {
-        return outcome_alone(Outcome::N4);
+        return with_role(Outcome::N4, Role::None);
     }
     let row = row_in(board, message);
     if ROWS <= row {
-        return outcome_alone(Outcome::N6);
+        return with_role(Outcome::N6, Role::None);
     }
     let role = role_of(board, access, row, channel as u16);
     let state = load(board, &records[..], row);

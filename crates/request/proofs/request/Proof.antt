@@ -35,24 +35,24 @@ right : (c : tie.After-may-request)
     ≡ mayRequest (roleOf (boardIn (now (start l .args .board))) (entryAt (now (start l .args .access)) (l .before .before .before .before .before .row-in .result)) (start l .args .channel)) (l .load .result)
 right c = c .may-request .ensures ∙ ap (λ (role : Role). mayRequest role (c .before .load .result)) (c .before .before .before .before .role-of .ensures)
 
-outcome-alone-requires : tie.Need-outcome-alone-requires
-outcome-alone-requires c κs = search needs
+with-role-requires : tie.Need-with-role-requires
+with-role-requires c κs = search needs
 
 returns : tie.Need-returns
 unfolding carriedOut
-returns c = requests-early (refuses (too-short (c .before .if1 .taken))) refl (c .outcome-alone .ensures)
+returns c = requests-early (refuses (too-short (c .before .if1 .taken))) refl (c .with-role .ensures)
 
 row-in-requires : tie.Need-row-in-requires
 row-in-requires c κs = search needs
 
-outcome-alone-requires-2 : tie.Need-outcome-alone-requires-2
-outcome-alone-requires-2 c κs = search needs
+with-role-requires-2 : tie.Need-with-role-requires-2
+with-role-requires-2 c κs = search needs
 
 returns-2 : tie.Need-returns-2
 unfolding carriedOut
 returns-2 c =
     requests-early (refuses (off-board (c .before .before .before .if1 .left) refl (c .before .before .row-in .ensures) (c .before .if2 .taken))) refl
-    (c .outcome-alone2 .ensures)
+    (c .with-role2 .ensures)
 
 role-of-requires : tie.Need-role-of-requires
 role-of-requires c κs = search needs
@@ -63,8 +63,8 @@ load-requires c κs = search needs
 may-request-requires : tie.Need-may-request-requires
 may-request-requires c κs = search needs
 
-with-role-requires : tie.Need-with-role-requires
-with-role-requires c κs = search needs
+with-role-requires-3 : tie.Need-with-role-requires-3
+with-role-requires-3 c κs = search needs
 
 returns-3 : tie.Need-returns-3
 unfolding carriedOut
@@ -72,7 +72,7 @@ returns-3 c =
     let d = c .before .before in
     let l = at-N7 (d .before) in
     requests-late l (refuses (lacks-right (l .reached) (right d) (c .before .if3 .taken))) refl (d .before .before .before .before .role-of .ensures)
-    (c .with-role .ensures)
+    (c .with-role3 .ensures)
 
 held-by-requires : tie.Need-held-by-requires
 held-by-requires c κs = search needs
@@ -80,8 +80,8 @@ held-by-requires c κs = search needs
 store-own-requires : tie.Need-store-own-requires
 store-own-requires c κs = search needs
 
-with-role-requires-2 : tie.Need-with-role-requires-2
-with-role-requires-2 c κs = search needs
+with-role-requires-4 : tie.Need-with-role-requires-4
+with-role-requires-4 c κs = search needs
 
 returns-4 : tie.Need-returns-4
 unfolding carriedOut
@@ -96,23 +96,23 @@ returns-4 c =
     (c .before .store-own .ensures))
     refl
     (d .before .before .before .before .role-of .ensures)
-    (c .with-role2 .ensures)
+    (c .with-role4 .ensures)
 
 pub request-spec : {M : Type 1} → statement M
 request-spec =
     tie.close
     (tie.spec
-    outcome-alone-requires
+    with-role-requires
     returns
     row-in-requires
-    outcome-alone-requires-2
+    with-role-requires-2
     returns-2
     role-of-requires
     load-requires
     may-request-requires
-    with-role-requires
+    with-role-requires-3
     returns-3
     held-by-requires
     store-own-requires
-    with-role-requires-2
+    with-role-requires-4
     returns-4)
