@@ -6,6 +6,11 @@
  *     N7 0 0 00c0050100000000
  *     OK 0 0 -
  *
+ * and to its log, the standard error, what the sender of each request is to the processor:
+ *
+ *     request of 1 by host 3: recovery master
+ *     request of 1 by host 5: secondary 0
+ *
  * With an argument it first describes the largest board, 64 hosts and 32 processors, and prints
  * `board OK` before these lines: the session is the same there.
  *
@@ -55,6 +60,17 @@ static void print_outcome(uint32_t outcome)
         printf("R%u", (unsigned)(outcome - 100));
     else
         printf("N%u", (unsigned)outcome);
+}
+
+/* What a role is called in the log, by its number. */
+static const char *const role_names[] = {"none",        "recovery master", "secondary 0",
+                                         "secondary 1", "secondary 2",     "open processor"};
+
+/* Logs the role of whoever sent a request. It is told by the report alone, never by the answer. */
+static void log_request(uint8_t channel, const uint8_t *message, uint32_t role)
+{
+    fprintf(stderr, "request of %u by host %u: %s\n", (unsigned)message[8], (unsigned)channel,
+            role_names[role]);
 }
 
 /* Prints the answer's bytes in hexadecimal, or a dash where none were written. */
@@ -123,6 +139,8 @@ static void deliver(uint8_t channel, const uint8_t *message, size_t length)
     printf(" %u %u ", (unsigned)report[POMROZEK_CHECKS], (unsigned)report[POMROZEK_MICROS]);
     print_answer(answer, report[POMROZEK_WRITTEN]);
     printf("\n");
+    if (length > 8 && message[0] == 0x00 && message[1] == 0xC0)
+        log_request(channel, message, report[POMROZEK_ROLE]);
 }
 
 int main(int argc, char **argv)
