@@ -8,8 +8,8 @@
  *
  * and to its log, the standard error, what the sender of each request is to the processor:
  *
- *     request of 1 by host 3: recovery master
- *     request of 1 by host 5: secondary 0
+ *     OK request of 1 by host 3: recovery master
+ *     N7 request of 1 by host 5: secondary 0
  *
  * With an argument it first describes the largest board, 64 hosts and 32 processors, and prints
  * `board OK` before these lines: the session is the same there.
@@ -63,14 +63,22 @@ static void print_outcome(uint32_t outcome)
 }
 
 /* What a role is called in the log, by its number. */
-static const char *const role_names[] = {"none",        "recovery master", "secondary 0",
-                                         "secondary 1", "secondary 2",     "open processor"};
+static const char *const role_names[] = {
+    [POMROZEK_ROLE_NONE] = "none",
+    [POMROZEK_ROLE_MASTER] = "recovery master",
+    [POMROZEK_ROLE_SECONDARY_0] = "secondary 0",
+    [POMROZEK_ROLE_SECONDARY_1] = "secondary 1",
+    [POMROZEK_ROLE_SECONDARY_2] = "secondary 2",
+    [POMROZEK_ROLE_OPEN] = "open processor",
+};
 
-/* Logs the role of whoever sent a request. It is told by the report alone, never by the answer. */
-static void log_request(uint8_t channel, const uint8_t *message, uint32_t role)
+/* Logs a request that came to N7 or OK, with the role that the report tells and no answer holds. */
+static void log_request(uint8_t channel, const uint8_t *message, uint32_t outcome, uint32_t role)
 {
-    fprintf(stderr, "request of %u by host %u: %s\n", (unsigned)message[8], (unsigned)channel,
-            role_names[role]);
+    if (outcome != POMROZEK_OK && outcome != POMROZEK_N7)
+        return;
+    fprintf(stderr, "%s request of %u by host %u: %s\n", outcome == POMROZEK_OK ? "OK" : "N7",
+            (unsigned)message[8], (unsigned)channel, role_names[role]);
 }
 
 /* Prints the answer's bytes in hexadecimal, or a dash where none were written. */
@@ -123,8 +131,8 @@ static void offer(const uint8_t *list, size_t length)
 }
 
 /*
- * Sends one message from the queue of host `channel`, and prints outcome, checks, microseconds and
- * answer. These messages need no status word: the pointer is valid, the length 0.
+ * Sends one message from the queue of host `channel`, prints outcome, checks, microseconds and answer,
+ * and logs a request. These messages need no status word: the pointer is valid, the length 0.
  */
 static void deliver(uint8_t channel, const uint8_t *message, size_t length)
 {
@@ -139,8 +147,8 @@ static void deliver(uint8_t channel, const uint8_t *message, size_t length)
     printf(" %u %u ", (unsigned)report[POMROZEK_CHECKS], (unsigned)report[POMROZEK_MICROS]);
     print_answer(answer, report[POMROZEK_WRITTEN]);
     printf("\n");
-    if (length > 8 && message[0] == 0x00 && message[1] == 0xC0)
-        log_request(channel, message, report[POMROZEK_ROLE]);
+    if (message[0] == 0x00 && message[1] == 0xC0)
+        log_request(channel, message, outcome, report[POMROZEK_ROLE]);
 }
 
 int main(int argc, char **argv)

@@ -132,16 +132,16 @@ enum pomrozek_report {
 /*
  * What the sender of a request is to the processor that it names. A host that is recovery master and
  * secondary counts as master, and one that is secondary in several places by the lowest. The role is for
- * the log alone: no byte of an answer depends on it. A request that comes to N7 carries the role that it
- * is refused with.
+ * the log alone: no answer holds it, which says ACK or NAK and no more. A request that comes to N7 carries
+ * the role that it is refused with.
  */
 enum pomrozek_role {
-    POMROZEK_ROLE_NONE = 0,        /* the entry does not name the host */
+    POMROZEK_ROLE_NONE = 0,        /* the entry does not name the host; or no role is told, see above */
     POMROZEK_ROLE_MASTER = 1,      /* recovery master */
     POMROZEK_ROLE_SECONDARY_0 = 2, /* the entry's first secondary */
     POMROZEK_ROLE_SECONDARY_1 = 3, /* its second */
     POMROZEK_ROLE_SECONDARY_2 = 4, /* its third */
-    POMROZEK_ROLE_OPEN = 5         /* the processor has no entry, and so is open to every board host */
+    POMROZEK_ROLE_OPEN = 5         /* the processor has no entry: it is open to every board host but 0 */
 };
 
 /*

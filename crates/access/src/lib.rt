@@ -1,4 +1,5 @@
-// The access memory, asked whether a list was accepted and for the role of a host at a row. Its layout is specs/Memory.antt; any content of it is a state. Hosts are 16-bit numbers throughout.
+// The access memory, asked whether a list was accepted and for the role of a host at a row. Its layout
+// is specs/Memory.antt; any content of it is a state. Hosts are 16-bit numbers throughout.
 ghost use mathlib.Core.Path.{_≡_};
 ghost use mathlib.Core.Bool.{cond};
 ghost use lib.ListN.{getD};
@@ -37,8 +38,8 @@ fn open_role(board: &[u8; 576], host: u16) -> Role
     Role::None
 }
 
-// The role of `host` for the processor at `row`. Host 0 has none: it never sends, and a secondary of 0 is
-// unused. By an entry the master comes first, then the lowest place.
+// The role of `host` for the processor at `row`. Host 0 has none: it is never permitted, and a secondary of
+// 0 is unused. By an entry the master comes first, then the lowest place.
 pub fn role_of(board: &[u8; 576], access: &[u16], row: u8, host: u16) -> Role
     ensures { λ r. ⌜ r ≡ roleOf (boardIn (now (board .entry))) (entryAt (now (access .entry)) row) host ⌝ }
 {

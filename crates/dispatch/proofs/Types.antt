@@ -27,7 +27,7 @@ use Rattle.dispatch.specs.Dispatched.{kindTable, DecidesKind}
 plain : (k : Kind) (v : View) (q : Query) (o : Outcome) → isKind k Request ≡ false → isKind k WaitStatus ≡ false
     → _≡_ {A = Decision} (record { outcome = o; checks = 0; micros = 0; role = None }) (decisionOn k v q o)
 unfolding decisionOn waited tellsRole
-plain k v q o role other = rw (role, other)
+plain k v q o unasked other = rw (unasked, other)
 
 -- types that change no record leave the memory
 unchanged : (b : Board) (k : Kind) (memory : List ℕ) (q : Query) (o : Outcome) → ((r : Record) → effectOf k q r ≡ r) → memory ≡ memoryAfter b k o memory q

@@ -27,7 +27,7 @@ pub fn row_in(board: &[u8; 576], message: &[u8]) -> u8
     row_of(board, byte_at(message, 8))
 }
 
-// A decision with the sender's role: a request that came to N7 or beyond.
+// A decision with a role and no checks: a request's. Refused before N7 it has the role none.
 pub fn with_role(outcome: Outcome, role: Role) -> Decision
     ensures { λ r. ⌜ r ≡ record { outcome = outcome; checks = 0; micros = 0; role = role } ⌝ }
 {
@@ -39,7 +39,7 @@ pub fn with_role(outcome: Outcome, role: Role) -> Decision
     }
 }
 
-// A decision that reports the outcome alone: every other one but a wait's that ended.
+// A decision that reports the outcome alone: no checks, and the role none.
 pub fn outcome_alone(outcome: Outcome) -> Decision
     ensures { λ r. ⌜ r ≡ record { outcome = outcome; checks = 0; micros = 0; role = None } ⌝ }
 {

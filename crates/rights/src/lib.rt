@@ -1,5 +1,6 @@
-// N7 of document 01: whether a sender has the right that its message asks for, by its role and the
-// record of the processor that it names. Each function gives what the definition of that name gives.
+// N7 of document 01: whether a sender has the right that its message asks for, by its role and the record
+// of the processor that it names; and who is permitted, which handover asks of its new host too (N8). Each
+// function gives what the definition of that name gives.
 ghost use mathlib.Core.Path.{_≡_};
 ghost use Rattle.rules.specs.Role.{permits, isMaster, permitted};
 ghost use Rattle.rules.specs.Outcome.{mayRequest, isController};

@@ -19,7 +19,7 @@ use Rattle.rules.specs.Sequence.{run}
 use Rattle.rules.specs.Bench.{Case, givenIn, answerGiven, starred}
 use Rattle.rules.specs.Cluster.{clustered}
 use Rattle.rules.specs.Boards.{hostsFrom, processorsFrom, boarded}
-use Rattle.rules.specs.Roles.{RoleCase, Shown, shownIn, roled}
+use Rattle.rules.specs.Roles.{RoleCase, shownIn, roled}
 
 -- every case of a table gives what it says
 abbrev pub Hold : List Case → Type 0

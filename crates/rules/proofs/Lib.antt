@@ -4,7 +4,7 @@ pub mod Tables
 pub mod Verdicts
 pub mod Rows
 pub mod Homes
-pub mod Roles
+pub mod Permission
 pub mod Rights
 pub mod Entries
 pub mod Sound

@@ -1,7 +1,7 @@
 -- What OK means: every row of the table is clear; so a sender whose message is carried out has a right that the entry names, and leaves
 -- the processor free or with a permitted host. A refusal changes no record. Assumes nothing.
 use Prim.Native.Nat.{ℕ, _≤_}
-use mathlib.Core.Path.{_≡_, refl, subst, _∙_}
+use mathlib.Core.Path.{_≡_, refl, subst}
 use mathlib.Core.Bool.{Bool, true, false, not, _&&_, _||_}
 use mathlib.Core.Logic.{⊎-elim}
 use native.Mathlib.Nat.{le-trans}
@@ -20,8 +20,8 @@ use Rattle.rules.specs.Role.{roleOf, isMaster, permits, permitted}
 use Rattle.rules.specs.Message.{Query, hostOf, kindIn, sizeOf, namesProcessor, subjectOf, isAbout}
 use Rattle.rules.specs.Outcome.{View, senderWrong, typeUnknown, tooShort, notOffered, isFree, isController, mayRequest, hasRight, operandsGood, admission, byWords, outcomeTable, outcomeOf, carriedOut}
 use Rattle.rules.specs.Effect.{effectOf, recordAfter}
-use Rattle.rules.proofs.Roles.{master-permits}
-use Rattle.rules.proofs.Tests.{decide, clash, and-left, and-right, and-both, or-cases, or-left, or-right, or-false-left, cond-true, cond-false, cleared, passed, firstOf-append}
+use Rattle.rules.proofs.Permission.{master-permits}
+use Rattle.rules.proofs.Tests.{decide, clash, and-left, and-right, and-both, or-cases, or-right, or-false-left, cond-true, cond-false, cleared, passed, firstOf-append}
 
 -- ---- every row of the admission is clear where the outcome is OK
 

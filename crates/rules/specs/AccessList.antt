@@ -112,13 +112,13 @@ unfoldable pub hasEntry : Entry → Bool
 hasEntry e = not (eqb (e .master) 0)
 
 -- without an entry there is no recovery master
-unfoldable pub masterIn01 : Entry → ℕ → Bool
-masterIn01 e h = hasEntry e && eqb (e .master) h
+unfoldable pub masterBy01 : Entry → ℕ → Bool
+masterBy01 e h = hasEntry e && eqb (e .master) h
 
 -- a secondary of 0 is unused
-unfoldable pub secondaryIn01 : Entry → ℕ → Bool
-secondaryIn01 e h = not (eqb h 0) && (eqb (e .first) h || eqb (e .second) h || eqb (e .third) h)
+unfoldable pub secondaryBy01 : Entry → ℕ → Bool
+secondaryBy01 e h = not (eqb h 0) && (eqb (e .first) h || eqb (e .second) h || eqb (e .third) h)
 
 -- with an entry its master and its used secondaries, without one every board host but 0
-unfoldable pub permittedIn01 : Board → Entry → ℕ → Bool
-permittedIn01 b e h = cond (hasEntry e) (masterIn01 e h || secondaryIn01 e h) (activeHost b h)
+unfoldable pub permittedBy01 : Board → Entry → ℕ → Bool
+permittedBy01 b e h = cond (hasEntry e) (masterBy01 e h || secondaryBy01 e h) (activeHost b h)

@@ -12,7 +12,7 @@ use Rattle.rules.specs.declared.Role.{Role}
 use Rattle.rules.specs.declared.Role.the-variants.{None, Master, Secondary0, Secondary1, Secondary2, Open}
 use Rattle.rules.specs.Table.{_gives_, firstOf}
 use Rattle.rules.specs.Board.{Board, activeHost}
-use Rattle.rules.specs.AccessList.{Entry, hasEntry, masterIn01, secondaryIn01, permittedIn01}
+use Rattle.rules.specs.AccessList.{Entry, hasEntry, masterBy01, secondaryBy01, permittedBy01}
 use Rattle.rules.specs.Role.{namesHost, roleTable, roleOf, isMaster, permits, permitted}
 use Rattle.rules.specs.Outcome.{isFree, mayRequest}
 use Rattle.rules.proofs.Tests.{decide, clash}
@@ -57,18 +57,18 @@ master-by true false false false true a = refl
 master-by true false false false false a = refl
 
 module _ (b : Board) (e : Entry) (h : ℕ) where
-  pub permitted-same : permitted b e h ≡ permittedIn01 b e h
-  unfolding permitted roleOf roleTable permittedIn01 masterIn01 secondaryIn01
+  pub permitted-same : permitted b e h ≡ permittedBy01 b e h
+  unfolding permitted roleOf roleTable permittedBy01 masterBy01 secondaryBy01
   permitted-same =
       rw (names-used (e .first) h, names-used (e .second) h, names-used (e .third) h)
       (permits-by (hasEntry e) (eqb (e .master) h) (not (eqb h 0)) (eqb (e .first) h) (eqb (e .second) h) (eqb (e .third) h) (activeHost b h))
 
-  pub master-same : isMaster (roleOf b e h) ≡ masterIn01 e h
-  unfolding roleOf roleTable masterIn01
+  pub master-same : isMaster (roleOf b e h) ≡ masterBy01 e h
+  unfolding roleOf roleTable masterBy01
   master-same = master-by (hasEntry e) (eqb (e .master) h) (namesHost (e .first) h) (namesHost (e .second) h) (namesHost (e .third) h) (activeHost b h)
 
   -- the right of a request, in document 01's words
-  pub request-same : (r : Record) → mayRequest (roleOf b e h) r ≡ (isFree r && permittedIn01 b e h || masterIn01 e h)
+  pub request-same : (r : Record) → mayRequest (roleOf b e h) r ≡ (isFree r && permittedBy01 b e h || masterBy01 e h)
   unfolding permitted
   request-same r = rw (sym permitted-same, sym master-same)
 
@@ -106,7 +106,7 @@ names-other s h other = names-used s h ∙ rw (ne-eqb s h other) (and-false (not
 module _ (b : Board) (e : Entry) (h : ℕ) where
   -- host 0 has no role
   pub role-zero : h ≡ 0 → roleOf b e h ≡ None
-  unfolding permitted permittedIn01 masterIn01 secondaryIn01 hasEntry activeHost
+  unfolding permitted permittedBy01 masterBy01 secondaryBy01 hasEntry activeHost
   role-zero zero = none-by (roleOf b e h) (permitted-same b e h ∙ rw zero (zero-by (eqb (e .master) 0)))
 
   pub role-master : (h ≡ 0 → ⊥) → e .master ≡ h → roleOf b e h ≡ Master
