@@ -34,8 +34,8 @@ pub fn request(
     if ROWS <= row {
         return with_role(Outcome::N6, Role::None);
     }
-    let role = role_of(board, access, row, channel as u16);
     let state = load(board, &records[..], row);
+    let role = role_of(board, access, row, channel as u16);
     if !may_request(role, state) {
         return with_role(Outcome::N7, role);
     }

@@ -16,24 +16,24 @@ use Rattle.request.proofs.request.Statement.{statement}
 use Rattle.request.proofs.request.Tie as tie
 
 abbrev start : tie.After-load → tie.Start
-start c = c .before .before .before .before .before .before .before .before .before
+start c = c .before .before .before .before .before .before .before .before
 
 abbrev asks : tie.After-load → Query
 asks c = asked (start c .args .channel) (now (start c .args .message)) []
 
 at-N7 : (c : tie.After-load)
-    → Loaded (boardIn (now (start c .args .board))) Request (asks c) (now (start c .args .records)) (c .before .before .before .before .before .row-in .result) (c .load .result)
+    → Loaded (boardIn (now (start c .args .board))) Request (asks c) (now (start c .args .records)) (c .before .before .before .before .row-in .result) (c .load .result)
 at-N7 c =
-    loaded-at (c .before .before .before .before .before .before .if1 .left) refl (c .before .before .before .before .before .row-in .ensures)
-    (c .before .before .before .before .if2 .left)
+    loaded-at (c .before .before .before .before .before .if1 .left) refl (c .before .before .before .before .row-in .ensures)
+    (c .before .before .before .if2 .left)
     (c .load .ensures)
 
 -- the right by the role that was found
 right : (c : tie.After-may-request)
-    → let l = c .before in
+    → let l = c .before .before in
     c .may-request .result
-    ≡ mayRequest (roleOf (boardIn (now (start l .args .board))) (entryAt (now (start l .args .access)) (l .before .before .before .before .before .row-in .result)) (start l .args .channel)) (l .load .result)
-right c = c .may-request .ensures ∙ ap (λ (role : Role). mayRequest role (c .before .load .result)) (c .before .before .before .before .role-of .ensures)
+    ≡ mayRequest (roleOf (boardIn (now (start l .args .board))) (entryAt (now (start l .args .access)) (l .before .before .before .before .row-in .result)) (start l .args .channel)) (l .load .result)
+right c = c .may-request .ensures ∙ ap (λ (role : Role). mayRequest role (c .before .before .load .result)) (c .before .role-of .ensures)
 
 with-role-requires : tie.Need-with-role-requires
 with-role-requires c κs = search needs
@@ -54,11 +54,11 @@ returns-2 c =
     requests-early (refuses (off-board (c .before .before .before .if1 .left) refl (c .before .before .row-in .ensures) (c .before .if2 .taken))) refl
     (c .with-role2 .ensures)
 
-role-of-requires : tie.Need-role-of-requires
-role-of-requires c κs = search needs
-
 load-requires : tie.Need-load-requires
 load-requires c κs = search needs
+
+role-of-requires : tie.Need-role-of-requires
+role-of-requires c κs = search needs
 
 may-request-requires : tie.Need-may-request-requires
 may-request-requires c κs = search needs
@@ -70,8 +70,8 @@ returns-3 : tie.Need-returns-3
 unfolding carriedOut
 returns-3 c =
     let d = c .before .before in
-    let l = at-N7 (d .before) in
-    requests-late l (refuses (lacks-right (l .reached) (right d) (c .before .if3 .taken))) refl (d .before .before .before .before .role-of .ensures)
+    let l = at-N7 (d .before .before) in
+    requests-late l (refuses (lacks-right (l .reached) (right d) (c .before .if3 .taken))) refl (d .before .role-of .ensures)
     (c .with-role3 .ensures)
 
 held-by-requires : tie.Need-held-by-requires
@@ -87,7 +87,7 @@ returns-4 : tie.Need-returns-4
 unfolding carriedOut
 returns-4 c =
     let d = c .before .before .before .before .before in
-    let l = at-N7 (d .before) in
+    let l = at-N7 (d .before .before) in
     requests-late l
     (carries-own refl refl l
     (admitted (l .reached) (right d) (c .before .before .before .before .if3 .left) refl refl)
@@ -95,7 +95,7 @@ returns-4 c =
     (λ r. refl)
     (c .before .store-own .ensures))
     refl
-    (d .before .before .before .before .role-of .ensures)
+    (d .before .role-of .ensures)
     (c .with-role4 .ensures)
 
 pub request-spec : {M : Type 1} → statement M
@@ -107,8 +107,8 @@ request-spec =
     row-in-requires
     with-role-requires-2
     returns-2
-    role-of-requires
     load-requires
+    role-of-requires
     may-request-requires
     with-role-requires-3
     returns-3
