@@ -55,11 +55,13 @@ pub fn control_good(class: usize, message: &[u8]) -> bool
     flags_good(class, 1, set, u32_at(message, 13))
 }
 
-// Whether a wait asks for at least one check and one match, with at least one mask.
+// Whether a wait asks for at least one check and one match, for no more matches than checks, with at
+// least one mask. Matches of 1 or more that are not above the checks leave at least one check.
 pub fn wait_good(w: Wait) -> bool
     ensures { λ r. ⌜ r ≡ waitGood w ⌝ }
 {
-    (w.waits != 0)
-        & (w.matches != 0)
-        & !((w.allset == 0) & (w.anyset == 0) & (w.allclear == 0) & (w.anyclear == 0))
+    if (w.matches == 0) | (w.waits < w.matches) {
+        return false;
+    }
+    !((w.allset == 0) & (w.anyset == 0) & (w.allclear == 0) & (w.anyclear == 0))
 }

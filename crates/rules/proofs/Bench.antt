@@ -1,5 +1,5 @@
--- The starred cases hold, those of the shared control word, of board descriptions and of roles: one computed check of the four tables.
--- Assumes nothing.
+-- The starred cases hold, those of the shared control word, of board descriptions, of roles and of waits: one computed check of the five
+-- tables. Assumes nothing.
 use mathlib.Core.Path.{_≡_, refl}
 use mathlib.Core.List.{List, map}
 use Rattle.rules.specs.Table.{firstOf, anyOf, placeOf, tableOf}
@@ -20,6 +20,7 @@ use Rattle.rules.specs.Bench.{Case, givenIn, answerGiven, starred}
 use Rattle.rules.specs.Cluster.{clustered}
 use Rattle.rules.specs.Boards.{hostsFrom, processorsFrom, boarded}
 use Rattle.rules.specs.Roles.{RoleCase, shownIn, roled}
+use Rattle.rules.specs.Waits.{counted}
 
 -- every case of a table gives what it says
 abbrev pub Hold : List Case → Type 0
@@ -29,9 +30,9 @@ Hold cases = map (λ (c : Case). givenIn (run (fresh ours) (c .earlier)) (c .cal
 abbrev pub Shows : List RoleCase → Type 0
 Shows cases = map (λ (c : RoleCase). shownIn (run (fresh ours) (c .earlier)) (c .call)) cases ≡ map (λ (c : RoleCase). (c .outcome, c .role)) cases
 
-all-hold : Hold starred × Hold clustered × Hold boarded × Shows roled
-unfolding roled shownIn boarded hostsFrom processorsFrom nothingListed bodySize fieldGood noItem itemIn fieldSize itemsFrom itemsIn listsHost repeats otherClass isFull itemTable withItem itemsTable descriptionTable boardVerdict withItems descriptionIn described firstOf anyOf placeOf tableOf ours ourDescription listsProcessor markIn rowIn classIn sharedCluster sharedIn homeIn boardOf boardHost activeHost rowOf onBoard classAt classOf homeAt maskOf noEntry partsFrom namedIn entryTable entriesTable listTable verdictOf accepted entryIn withPart withParts noEntries entriesOf hasEntry namesHost roleTable roleOf permitted answerAsked kindOf waitIn subjectOf runAfter endsRun firstEnd endingCheck ranOut checksOf microsOf senderWrong wordsMissing waitFailed admission byWords outcomeTable outcomeOf carriedOut silent recordAfter ackBytes bytesFor answerBytes answerOf waited tellsRole reportOf listed freeOwn fresh entryOf recordIn recordOf viewOf putIn stored verdictTo taken afterOffer afterMessage answerTo next run givenIn answerGiven starred clustered
-all-hold = (refl, refl, refl, refl)
+all-hold : Hold starred × Hold clustered × Hold boarded × Shows roled × Hold counted
+unfolding counted roled shownIn boarded hostsFrom processorsFrom nothingListed bodySize fieldGood noItem itemIn fieldSize itemsFrom itemsIn listsHost repeats otherClass isFull itemTable withItem itemsTable descriptionTable boardVerdict withItems descriptionIn described firstOf anyOf placeOf tableOf ours ourDescription listsProcessor markIn rowIn classIn sharedCluster sharedIn homeIn boardOf boardHost activeHost rowOf onBoard classAt classOf homeAt maskOf noEntry partsFrom namedIn entryTable entriesTable listTable verdictOf accepted entryIn withPart withParts noEntries entriesOf hasEntry namesHost roleTable roleOf permitted answerAsked kindOf waitIn subjectOf runAfter endsRun firstEnd endingCheck ranOut checksOf microsOf senderWrong wordsMissing waitFailed admission byWords outcomeTable outcomeOf carriedOut silent recordAfter ackBytes bytesFor answerBytes answerOf waited tellsRole reportOf listed freeOwn fresh entryOf recordIn recordOf viewOf putIn stored verdictTo taken afterOffer afterMessage answerTo next run givenIn answerGiven starred clustered
+all-hold = (refl, refl, refl, refl, refl)
 
 pub starred-hold : Hold starred
 starred-hold = all-hold .0
@@ -47,3 +48,7 @@ boarded-hold = all-hold .2
 -- document 02, L5
 pub roled-show : Shows roled
 roled-show = all-hold .3
+
+-- document 02, L9
+pub counted-hold : Hold counted
+counted-hold = all-hold .4

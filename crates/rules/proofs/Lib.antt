@@ -1,4 +1,5 @@
--- What is shown of the rules: the starred cases, the flag rules, and the laws that demand 3 and the code cite.
+-- What is shown of the rules: the starred cases, the flag rules, why waits are refused for their numbers, and the laws that demand 3 and the
+-- code cite.
 pub mod Tests
 pub mod Tables
 pub mod Verdicts
@@ -9,5 +10,6 @@ pub mod Rights
 pub mod Entries
 pub mod Sound
 pub mod Descriptions
+pub mod Waits
 pub mod Bench
 pub mod Flags

@@ -20,3 +20,4 @@ pub mod Bench
 pub mod Cluster
 pub mod Boards
 pub mod Roles
+pub mod Waits

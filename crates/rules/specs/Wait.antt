@@ -48,9 +48,10 @@ checksOf w words = cond (ranOut w words) (w .waits) (endingCheck w words)
 unfoldable pub microsOf : Wait → List ℕ → ℕ
 microsOf w words = w .before + w .delay * checksOf w words
 
--- waits and matches at least 1, and at least one mask not zero
+-- waits and matches at least 1, matches not above waits (document 02, L9: no words end such a wait), and at least one mask not zero
 abbrev pub waitGood : Wait → Bool
 waitGood w =
     not (eqb (w .waits) 0)
     && not (eqb (w .matches) 0)
+    && leb (w .matches) (w .waits)
     && not (eqb (w .allset) 0 && eqb (w .anyset) 0 && eqb (w .allclear) 0 && eqb (w .anyclear) 0)

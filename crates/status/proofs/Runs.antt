@@ -1,7 +1,7 @@
 -- One more check of a wait, over plain numbers: how the run goes on, and what the search for its end comes to. Assumes nothing.
 use Prim.Native.Nat.{ℕ, zero, suc, _+_, _≤_, _<_, _-_, min}
 use mathlib.Core.Path.{_≡_, _∙_, subst}
-use mathlib.Core.Bool.{Bool, true, false, cond}
+use mathlib.Core.Bool.{Bool, cond}
 use mathlib.Core.List.{List}
 use mathlib.Core.Logic.{⊎-elim}
 use native.Mathlib.Omega.{arith}
@@ -37,11 +37,6 @@ module _ (w : Wait) (words : List ℕ) where
     pub run-goes-on : r < w .matches → firstEnd w words k (total - k) ≡ firstEnd w words (suc k) (total - suc k)
     unfolding endsRun
     run-goes-on e = one-check k total h ∙ cond-false _ _ (lt-leb (w .matches) (runAfter w words (suc k)) (subst (λ (n : ℕ). n < w .matches) run e))
-
--- a run is no longer than the checks made
-pub run-small : (k run r : ℕ) (matching : Bool) → r ≡ cond matching (suc run) 0 → run ≤ k → r ≤ suc k
-run-small k run r true e h = omega arith
-run-small k run r false e h = omega arith
 
 -- ---- a wait makes no more checks than it asks for
 

@@ -48,8 +48,8 @@ fn waited(w: Wait, status: &[u32]) -> Decision
     }
 }
 
-// Wait status: the sender is permitted, the wait asks for something, and there are as many status
-// words as it may check. No record changes.
+// Wait status: the sender is permitted, the wait asks for something that words can give, and there are
+// as many status words as it may check. No record changes.
 pub fn wait_status(
     board: &[u8; 576],
     access: &[u16],

@@ -9,14 +9,14 @@ use borrow.Author.Needs.{needs}
 use lib.ListN.{length}
 use denote.Ref.{now}
 use Rattle.rules.specs.Wait.{runAfter, firstEnd, endingCheck}
-use Rattle.status.proofs.Runs.{run-step, none-left, run-ended, run-goes-on, run-small}
+use Rattle.rules.proofs.Waits.{run-within}
+use Rattle.status.proofs.Runs.{run-step, none-left, run-ended, run-goes-on}
 use Rattle.status.proofs.ending_check.Statement.{statement}
 use Rattle.status.proofs.ending_check.Tie as tie
 
 abbrev Inv-loop : tie.InvT-loop
 Inv-loop w status waits matches run₀ checks₀ run checks =
-    (run ≤ checks)
-    × (checks ≤ min (w .waits) (length status))
+    (checks ≤ min (w .waits) (length status))
     × (run ≡ runAfter w status checks)
     × (firstEnd w status checks (min (w .waits) (length status) - checks) ≡ endingCheck w status)
 
@@ -33,12 +33,12 @@ loop-holds : tie.Need-loop-holds Inv-loop μ-loop
 unfolding runAfter endingCheck
 loop-holds c =
     let a = c .before .before .before .args in
-    (omega arith, omega arith, refl, ap (firstEnd (a .w) (now (a .status)) 0) (sub-zero _))
+    (omega arith, refl, ap (firstEnd (a .w) (now (a .status)) 0) (sub-zero _))
 
 returns : tie.Need-returns Inv-loop μ-loop
 returns c =
     let a = c .before .before .before .before .before .before .args in
-    sym (none-left (a .w) (now (a .status)) _ _ (omega arith)) ∙ c .before .before .loop .inv .3
+    sym (none-left (a .w) (now (a .status)) _ _ (omega arith)) ∙ c .before .before .loop .inv .2
 
 mul-word-matches : tie.Need-mul-word-matches Inv-loop μ-loop
 mul-word-matches c = search needs
@@ -50,7 +50,11 @@ word-matches-requires : tie.Need-word-matches-requires Inv-loop μ-loop
 word-matches-requires c κs = search needs
 
 run-after-requires : tie.Need-run-after-requires Inv-loop μ-loop
-run-after-requires c κs = omega arith
+run-after-requires c κs =
+    let a = c .before .before .before .before .before .before .before .before .args in
+    let l = c .before .before .before .before .loop in
+    let within = run-within (a .w) (now (a .status)) (l .checks) in
+    omega arith
 
 add-checks : tie.Need-add-checks Inv-loop μ-loop
 add-checks c = omega arith
@@ -59,8 +63,8 @@ returns-2 : tie.Need-returns-2 Inv-loop μ-loop
 returns-2 c =
     let a = c .before .before .before .before .before .before .before .before .before .before .args in
     let l = c .before .before .before .before .before .before .loop in
-    let run = run-step (a .w) (now (a .status)) (l .checks) (l .run) _ _ (c .before .before .word-matches .ensures) (l .inv .2) (c .before .run-after .ensures) in
-    add-one (l .checks) ∙ sym (run-ended (a .w) (now (a .status)) (l .checks) _ _ (omega arith) run (c .if2 .taken)) ∙ l .inv .3
+    let run = run-step (a .w) (now (a .status)) (l .checks) (l .run) _ _ (c .before .before .word-matches .ensures) (l .inv .1) (c .before .run-after .ensures) in
+    add-one (l .checks) ∙ sym (run-ended (a .w) (now (a .status)) (l .checks) _ _ (omega arith) run (c .if2 .taken)) ∙ l .inv .2
 
 loop-less : tie.Need-loop-less Inv-loop μ-loop
 loop-less c = omega arith
@@ -69,19 +73,17 @@ loop-again : tie.Need-loop-again Inv-loop μ-loop
 loop-again c =
     let a = c .before .before .before .before .before .before .before .before .before .before .args in
     let l = c .before .before .before .before .before .before .loop in
-    let step = c .before .run-after .ensures in
-    let run = run-step (a .w) (now (a .status)) (l .checks) (l .run) _ _ (c .before .before .word-matches .ensures) (l .inv .2) step in
+    let run = run-step (a .w) (now (a .status)) (l .checks) (l .run) _ _ (c .before .before .word-matches .ensures) (l .inv .1) (c .before .run-after .ensures) in
     let more = add-one (l .checks) in (
-      rw more (run-small (l .checks) (l .run) _ (c .before .before .word-matches .result) step (l .inv .0)),
       omega arith,
       rw more run,
-      rw more (sym (run-goes-on (a .w) (now (a .status)) (l .checks) _ _ (omega arith) run (c .if2 .left)) ∙ l .inv .3),
+      rw more (sym (run-goes-on (a .w) (now (a .status)) (l .checks) _ _ (omega arith) run (c .if2 .left)) ∙ l .inv .2),
     )
 
 returns-3 : tie.Need-returns-3 Inv-loop μ-loop
 returns-3 c =
     let a = c .before .before .before .before .before .args in
-    sym (none-left (a .w) (now (a .status)) _ _ (omega arith)) ∙ c .before .loop .inv .3
+    sym (none-left (a .w) (now (a .status)) _ _ (omega arith)) ∙ c .before .loop .inv .2
 
 pub ending-check-spec : {M : Type 1} → statement M
 ending-check-spec =
