@@ -7,6 +7,7 @@ use crate::message::ANSWER_BYTES;
 mod boards;
 mod cluster;
 mod roles;
+mod waits;
 
 /// One thing that happens in a case. The line is what has to be printed, and the role, which no line
 /// tells, what the message before it has to report.
@@ -68,6 +69,7 @@ pub fn cases() -> Vec<Case> {
     cases.extend(processor_cases());
     cases.extend(cluster::cases());
     cases.extend(roles::cases());
+    cases.extend(waits::cases());
     cases.push(worked_session());
     let described: Vec<_> = cases.iter().map(boards::described).collect();
     [cases, described, boards::cases(), vec![roles::full_board()]].concat()

@@ -51,9 +51,10 @@ impl Wait {
         [self.set_all, self.set_any, self.clear_all, self.clear_any]
     }
 
-    /// Whether the operands are right: both counts at least 1, and some mask not zero.
+    /// Whether the operands are right: both counts at least 1, matches not above waits, and some
+    /// mask not zero.
     pub fn is_valid(&self) -> bool {
-        self.waits >= 1 && self.matches >= 1 && self.masks() != [0; 4]
+        (1..=self.waits).contains(&self.matches) && self.masks() != [0; 4]
     }
 
     /// Whether one status word matches. An "any" mask of zero asks for nothing.
@@ -103,7 +104,8 @@ mod tests {
         assert_eq!(wait(5, 2).checks_to_first_run(&[1, 0, 1, 1, 1]), Some(4));
         assert_eq!(wait(5, 3).checks_to_first_run(&[1, 1, 0, 1, 1]), None);
         assert_eq!(wait(3, 3).checks_to_first_run(&[1, 1, 1]), Some(3));
-        assert_eq!(wait(2, 3).checks_to_first_run(&[1, 1, 1, 1]), None);
+        assert_eq!(wait(3, 3).checks_to_first_run(&[1, 1, 0, 1, 1, 1]), None);
+        assert_eq!(wait(4, 3).checks_to_first_run(&[0, 1, 1, 1]), Some(4));
         assert_eq!(wait(2, 2).checks_to_first_run(&[0, 1, 1]), None);
         assert_eq!(wait(255, 255).checks_to_first_run(&[1; 300]), Some(255));
     }
@@ -121,15 +123,26 @@ mod tests {
     }
 
     #[test]
-    fn operands() {
-        assert!(wait(1, 255).is_valid());
-        assert!(!wait(0, 1).is_valid() && !wait(1, 0).is_valid());
+    fn counts() {
+        let is_valid = |&(waits, matches): &(u8, u8)| wait(waits, matches).is_valid();
+        let right = [(1, 1), (3, 3), (4, 3), (255, 1), (255, 254), (255, 255)];
+        assert!(right.iter().all(is_valid));
+        let above = [(1, 2), (1, 255), (3, 4), (3, 255), (254, 255)];
+        assert!(!above.iter().any(is_valid));
+        let zero = [(0, 0), (0, 1), (0, 255), (1, 0), (255, 0)];
+        assert!(!zero.iter().any(is_valid));
+    }
+
+    /// Masks that no word can match are right as well.
+    #[test]
+    fn masks() {
         let masks = |set_all, set_any, clear_all, clear_any| {
             Wait { set_all, set_any, clear_all, clear_any, ..wait(1, 1) }.is_valid()
         };
         assert!(!masks(0, 0, 0, 0));
         assert!(masks(1 << 31, 0, 0, 0) && masks(0, 1, 0, 0));
         assert!(masks(0, 0, 1, 0) && masks(0, 0, 0, 1));
+        assert!(masks(1, 0, 1, 0) && masks(0, 1, 1, 0) && masks(1, 0, 0, 1));
     }
 
     #[test]

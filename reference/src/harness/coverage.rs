@@ -12,6 +12,7 @@ use crate::harness::role_situations::{count_odd_words, count_places, odd_words, 
 use crate::harness::roles::RoleCounts;
 use crate::harness::situations::{count_situations, situations, Seen, Watch};
 use crate::harness::tally::Tally;
+use crate::harness::wait_situations::{count_waits, waits};
 use crate::message::HEADER_BYTES;
 use crate::outcome::{Outcome, OUTCOMES};
 use crate::session::{call_of, write_line, Event, Session};
@@ -24,6 +25,7 @@ pub struct Coverage {
     processors: BTreeSet<u8>,
     roles: RoleCounts,
     situations: Tally,
+    waits: Tally,
     places: Tally,
     /// what only access memories that no list leaves can have
     odd_words: Tally,
@@ -45,6 +47,7 @@ impl Default for Coverage {
             processors: BTreeSet::new(),
             roles: RoleCounts::default(),
             situations: situations(),
+            waits: waits(),
             places: places(),
             odd_words: odd_words(),
             oddities: board_situations::oddities(),
@@ -106,6 +109,7 @@ impl Coverage {
         board_situations::count_refusal(&mut self.refusals, met);
         if let Some(seen) = seen {
             count_situations(&mut self.situations, seen);
+            count_waits(&mut self.waits, seen);
             count_places(&mut self.places, seen);
             count_odd_words(&mut self.odd_words, seen);
             board_situations::count_oddity(&mut self.oddities, seen);
@@ -148,8 +152,14 @@ impl Coverage {
 
     /// The tallies of what is expected.
     fn tallies(&self, library: bool) -> Vec<&Tally> {
-        let mut tallies =
-            vec![&self.situations, &self.places, &self.refusals, &self.listed, &self.offers];
+        let mut tallies = vec![
+            &self.situations,
+            &self.waits,
+            &self.places,
+            &self.refusals,
+            &self.listed,
+            &self.offers,
+        ];
         if library {
             tallies.extend([&self.odd_words, &self.oddities]);
         }

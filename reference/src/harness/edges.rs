@@ -1,11 +1,12 @@
-//! Recordings with a bad tag, a bad length or a cut at every position, with the longest and shortest
-//! good fields, and with every processor byte in messages of every type.
+//! Recordings with a bad tag, a bad length or a cut at every position, with the longest and
+//! shortest good fields, with every processor byte in messages of every type, and with every number
+//! of waits.
 
 use crate::harness::board_edges::board_recordings;
 use crate::harness::clients::client_list;
 use crate::harness::descriptions::{host_field, processor_field};
 use crate::harness::recordings::{field, header_of, message_field, status_field};
-use crate::message::{KINDS, LONGEST_MESSAGE};
+use crate::message::{Kind, KINDS, LONGEST_MESSAGE};
 use crate::session::{TAGS, TAG_BOARD, TAG_LIST};
 
 /// Lengths on both sides of each limit.
@@ -20,6 +21,7 @@ pub fn edge_recordings() -> Vec<Vec<u8>> {
         recordings.extend(spoiled(&whole, start));
     }
     recordings.push(processor_recording());
+    recordings.push(wait_recording());
     recordings.extend(board_recordings());
     recordings
 }
@@ -38,6 +40,26 @@ fn processor_recording() -> Vec<u8> {
         }
     }
     recording
+}
+
+/// Every number of waits with matches on both sides of the limits, first with no words and then
+/// with enough that all match.
+fn wait_recording() -> Vec<u8> {
+    let around = |waits: u8| {
+        let matches = [0, 1, waits.saturating_sub(1), waits, waits.saturating_add(1), 255];
+        matches.map(|matches| message_field(3, &wait_message(waits, matches)))
+    };
+    let waits = (0..=255).flat_map(around).collect::<Vec<_>>().concat();
+    let list = field(TAG_LIST, &client_list());
+    [list, waits.clone(), status_field(&[1; 255]), waits].concat()
+}
+
+/// Host 3 waits on processor 1 for set-all 1.
+fn wait_message(waits: u8, matches: u8) -> Vec<u8> {
+    let mut message = Kind::WaitStatus.number().to_le_bytes().to_vec();
+    message.extend([3, 0, 2, 0, 0, 0, 1, waits, matches, 0, 0, 1]);
+    message.resize(Kind::WaitStatus.size(), 0);
+    message
 }
 
 /// A recording with one small field of each kind.
@@ -93,6 +115,18 @@ mod tests {
         let text = String::from_utf8(lines).unwrap();
         let off_board = text.lines().filter(|line| line.starts_with("N6")).count();
         assert_eq!(off_board, 252 * 7 * 4);
+    }
+
+    #[test]
+    fn waits_are_refused_beyond_their_limits() {
+        let mut lines = Vec::new();
+        replay(wait_recording().as_slice(), &mut lines).unwrap();
+        let text = String::from_utf8(lines).unwrap();
+        let count = |outcome| text.lines().filter(|line| line.starts_with(outcome)).count();
+        // All six with 0 waits, four with 1, one with 255, and three with each of the others.
+        let refused = 6 + 4 + 1 + 3 * 253;
+        assert_eq!(count("N8"), 2 * refused);
+        assert_eq!([count("R3"), count("OK")], [256 * 6 - refused; 2]);
     }
 
     #[test]

@@ -24,4 +24,5 @@ pub mod roles;
 pub mod situations;
 pub mod tally;
 pub mod timing;
+pub mod wait_situations;
 pub mod waits;

@@ -8,6 +8,7 @@ use crate::harness::waits::{faulty_wait, good_wait, words_for};
 use crate::manager::{GEN_IGN_BOOTVECTOR, R5_VECTOR_LOW_BITS};
 use crate::message::Kind;
 use crate::outcome::Outcome;
+use crate::wait::Wait;
 
 impl Drafter<'_> {
     /// Adds the fields behind the processor; gives the status words that the message needs.
@@ -89,14 +90,29 @@ impl Drafter<'_> {
             good_wait(self.random)
         };
         message.extend(wait.to_bytes());
-        let waits = usize::from(wait.waits);
-        let count = if self.faulty(Outcome::R3) && waits > 0 {
-            let few = self.random.below(waits);
-            self.random.pick(&[0, waits - 1, few])
-        } else {
-            let more = self.random.between(waits, self.scene.most_words);
-            self.random.pick(&[waits, waits, more, (waits + 1).min(more)])
-        };
+        let count =
+            if wait.is_valid() { self.count_for_good(&wait) } else { self.count_for_faulty(&wait) };
         words_for(self.random, &wait, count)
+    }
+
+    /// How many words a wait with right operands gets: too few, just enough or more.
+    fn count_for_good(&mut self, wait: &Wait) -> usize {
+        let waits = usize::from(wait.waits);
+        if self.faulty(Outcome::R3) {
+            let few = self.random.below(waits);
+            return self.random.pick(&[0, waits - 1, few]);
+        }
+        let more = self.random.between(waits, self.scene.most_words);
+        self.random.pick(&[waits, waits, more, (waits + 1).min(more)])
+    }
+
+    /// How many words a wait with a wrong operand gets, which decide nothing: none, fewer than its
+    /// waits, just as many, at least as many as its matches, or any number.
+    fn count_for_faulty(&mut self, wait: &Wait) -> usize {
+        let (waits, matches) = (usize::from(wait.waits), usize::from(wait.matches));
+        let few = self.random.below(waits.max(1));
+        let many = self.random.between(matches, self.scene.most_words);
+        let any = self.random.between(0, self.scene.most_words);
+        self.random.pick(&[0, few, waits, matches, many, any])
     }
 }

@@ -8,7 +8,6 @@ use crate::manager::{Call, Setup, GEN_IGN_BOOTVECTOR};
 use crate::message::{read_order, Order, ANSWER_BYTES};
 use crate::outcome::{Outcome, Report};
 use crate::record::{Record, RecordMemory};
-use crate::wait::Wait;
 
 /// Follows the messages that meet the same memories one after the other.
 #[derive(Default)]
@@ -85,7 +84,7 @@ pub struct Seen<'a> {
     pub(super) sender: u8,
     pub(super) processor: u8,
     pub(super) row: usize,
-    order: Order,
+    pub(super) order: Order,
     /// the master and the secondaries of the row
     pub(super) places: &'a [u16],
     before: Record,
@@ -95,8 +94,8 @@ pub struct Seen<'a> {
     changed_through: Option<u8>,
     /// another R5 processor of the cluster, through which its own control word was changed
     r5_mate: Option<Record>,
-    status: &'a [u32],
-    report: Report,
+    pub(super) status: &'a [u32],
+    pub(super) report: Report,
 }
 
 impl Seen<'_> {
@@ -208,39 +207,11 @@ impl Seen<'_> {
     fn secure_sender(&self) -> bool {
         self.board.is_secure(u16::from(self.sender))
     }
-
-    /// Whether this is a wait with the outcome that passes the test.
-    fn waited(&self, outcome: Outcome, test: impl Fn(&Wait, u32) -> bool) -> bool {
-        let Order::WaitStatus(wait) = self.order else {
-            return false;
-        };
-        self.report.outcome == outcome && test(&wait, self.report.checks)
-    }
-
-    fn broken_run(&self, wait: &Wait, checks: u32) -> bool {
-        let before = checks as usize - usize::from(wait.matches);
-        self.status[..before].iter().any(|&word| wait.is_match(word))
-    }
-
-    fn enough_matches_in_all(&self, wait: &Wait) -> bool {
-        let checked = &self.status[..usize::from(wait.waits)];
-        let matching = checked.iter().filter(|&&word| wait.is_match(word)).count();
-        matching >= usize::from(wait.matches)
-    }
-
-    fn last_check_matched(&self, wait: &Wait) -> bool {
-        wait.is_match(self.status[usize::from(wait.waits) - 1])
-    }
-
-    fn early_run(&self, wait: &Wait) -> bool {
-        let shorter = Wait { waits: self.status.len() as u8, ..*wait };
-        shorter.is_valid() && shorter.checks_to_first_run(self.status).is_some()
-    }
 }
 
 type Test = fn(&Seen) -> bool;
 
-const SITUATIONS: [(&str, Test); 43] = [
+const SITUATIONS: [(&str, Test); 34] = [
     ("gained while free", |s| s.requested() && s.was_free()),
     ("gained without an entry", |s| s.requested() && !s.has_entry()),
     ("kept by the recovery master", |s| s.requested() && s.before.is_controlled_by(s.sender)),
@@ -253,25 +224,6 @@ const SITUATIONS: [(&str, Test); 43] = [
     ("requested again, no master", |s| {
         s.was_request(Outcome::N7) && s.before.is_controlled_by(s.sender)
     }),
-    ("wait over at the first check", |s| s.waited(Outcome::OK, |_, checks| checks == 1)),
-    ("wait over at the last check", |s| {
-        s.waited(Outcome::OK, |wait, checks| checks > 1 && checks == u32::from(wait.waits))
-    }),
-    ("wait over after 255 checks", |s| s.waited(Outcome::OK, |_, checks| checks == 255)),
-    ("wait over after a broken run", |s| {
-        s.waited(Outcome::OK, |w, checks| s.broken_run(w, checks))
-    }),
-    ("wait with just enough words", |s| {
-        s.waited(Outcome::OK, |wait, _| s.status.len() == usize::from(wait.waits))
-    }),
-    ("wait ran out in a run", |s| s.waited(Outcome::N9, |wait, _| s.last_check_matched(wait))),
-    ("wait ran out, enough in all", |s| {
-        s.waited(Outcome::N9, |wait, _| s.enough_matches_in_all(wait))
-    }),
-    ("wait ran out, matches above waits", |s| {
-        s.waited(Outcome::N9, |wait, _| wait.matches > wait.waits)
-    }),
-    ("too few words for an early run", |s| s.waited(Outcome::R3, |wait, _| s.early_run(wait))),
     ("control set through 32, read through 33", |s| s.first(33) && s.shared_read()),
     ("control set through 33, read through 32", |s| s.first(32) && s.shared_read()),
     ("control set through 32, 33 free", |s| s.first(32) && s.shared_set(Record::is_free)),

@@ -11,7 +11,7 @@ const TRIES: usize = 12;
 type Shape = fn(&mut Random, usize, usize, usize) -> bool;
 
 /// How the matching words lie among the checks.
-const SHAPES: [Shape; 7] = [
+const SHAPES: [Shape; 8] = [
     |_, _, _, _| false,
     |_, _, _, _| true,
     |random, _, _, _| random.one_in(2),
@@ -23,16 +23,17 @@ const SHAPES: [Shape; 7] = [
     |_, at, waits, matches| at + matches > waits,
     // a broken run, then a long one
     |_, at, _, matches| at >= matches && at != 2 * matches,
+    // every word but one in the middle of the checks
+    |_, at, waits, _| at != waits / 2,
 ];
 
-/// A wait with right operands.
+/// A wait with right operands, often with as many matches as waits.
 pub fn good_wait(random: &mut Random) -> Wait {
     let waits =
         random.pick_or(&[1, 2, 3, 5, 10, 40, 64, 128, 255], |random| random.between(1, 255));
     let matches = match random.below(6) {
-        0 | 1 => random.between(1, 3),
-        2 => waits,
-        3 => (waits + 1).min(255),
+        0 | 1 => random.between(1, waits.min(3)),
+        2 | 3 => waits,
         _ => random.between(1, waits),
     };
     let [set_all, set_any, clear_all, clear_any] = good_masks(random);
@@ -51,12 +52,21 @@ pub fn good_wait(random: &mut Random) -> Wait {
 /// A wait with at least one wrong operand.
 pub fn faulty_wait(random: &mut Random) -> Wait {
     let wait = good_wait(random);
-    match random.below(4) {
+    match random.below(8) {
         0 => Wait { waits: 0, ..wait },
         1 => Wait { matches: 0, ..wait },
         2 => Wait { set_all: 0, set_any: 0, clear_all: 0, clear_any: 0, ..wait },
-        _ => Wait { waits: 0, matches: 0, ..wait },
+        3 => Wait { waits: 0, matches: 0, ..wait },
+        _ => with_matches_above_waits(random, wait),
     }
+}
+
+/// The wait with matches above its waits, by one or by far. Waits of 255 become 254, as no matches
+/// are above 255.
+fn with_matches_above_waits(random: &mut Random, wait: Wait) -> Wait {
+    let waits = wait.waits.min(254);
+    let any = random.between(usize::from(waits) + 1, 255) as u8;
+    Wait { waits, matches: random.pick(&[waits + 1, waits + 1, any, 255]), ..wait }
 }
 
 /// Words in one of the shapes, `count` of them.
@@ -119,6 +129,33 @@ mod tests {
             assert!(good_wait(&mut random).is_valid());
             assert!(!faulty_wait(&mut random).is_valid());
         }
+    }
+
+    /// How many of a thousand waits have numbers that pass the test.
+    fn pairs(make: fn(&mut Random) -> Wait, test: impl Fn(u8, u8) -> bool) -> usize {
+        let mut random = Random::new(14, 0);
+        let made = (0..1000).map(|_| make(&mut random));
+        made.filter(|wait| test(wait.waits, wait.matches)).count()
+    }
+
+    #[test]
+    fn good_waits_often_have_equal_numbers() {
+        assert!(pairs(good_wait, |waits, matches| waits == matches) > 300);
+        assert!(pairs(good_wait, |waits, matches| (waits, matches) == (1, 1)) > 50);
+        assert!(pairs(good_wait, |waits, matches| (waits, matches) == (255, 255)) > 10);
+    }
+
+    #[test]
+    fn faulty_waits_often_have_matches_above_waits() {
+        let above = |by: fn(u8, u8) -> bool| {
+            pairs(faulty_wait, move |waits, matches| {
+                waits > 0 && waits < matches && by(waits, matches)
+            })
+        };
+        assert!(above(|_, _| true) > 300);
+        assert!(above(|waits, matches| matches - waits == 1) > 150);
+        assert!(above(|waits, matches| matches == 255 && waits < 100) > 50);
+        assert!(above(|waits, _| waits == 254) > 10);
     }
 
     #[test]

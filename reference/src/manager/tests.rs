@@ -67,9 +67,10 @@ fn outcomes_come_in_order() {
             6 => message.push(0),
             7 => message[8] = 1,
             8 => (channel, message[2]) = (5, 5),
-            9 => (message[9], message[13]) = (2, 1),
-            10 => status = vec![1, 0],
-            11 => status = vec![1, 1],
+            9 => (message[9], message[13]) = (1, 1),
+            10 => message[9] = 2,
+            11 => status = vec![1, 0],
+            12 => status = vec![1, 1],
             _ => {}
         }
         let call = Call { channel, message: &message, status: &status };
@@ -77,7 +78,7 @@ fn outcomes_come_in_order() {
         seen.push(handle(setup, &mut NO_RECORDS.clone(), &call, &mut vec![0; room]).outcome);
     }
     use Outcome::*;
-    assert_eq!(seen, [R1, R2, N1, N2, N3, N4, N6, N7, N8, R3, N9, OK, OK]);
+    assert_eq!(seen, [R1, R2, N1, N2, N3, N4, N6, N7, N8, N8, R3, N9, OK]);
 }
 
 #[test]
@@ -238,6 +239,25 @@ fn too_few_words_come_before_an_early_run() {
     let (report, _, _) = run(LISTED, NO_RECORDS, wait, &[1, 1]);
     assert_eq!((report.outcome, report.checks, report.written), (Outcome::R3, 0, 0));
     assert_eq!(run(LISTED, NO_RECORDS, wait, &[1, 1, 1]).0.checks, 1);
+}
+
+/// Waits 3 and matches 4, with no words, with as many as waits and with as many as matches.
+#[test]
+fn matches_above_waits_come_before_the_words() {
+    let held = records_with(&[(0, 3), (1, 0x80), (3, 0x100), (128, 1)]);
+    let rest = "01 03 04 02 05 01 00 00 00 00 00 00 00 00 00 00 00 00 00 00 00";
+    let nak = bytes_of("01 C4 03 0E 00 00 00 00");
+    for status in [&[][..], &[1; 3], &[0; 3], &[1; 4]] {
+        for (flags, written) in [("02 00 00 00", nak.len()), ("FD FF FF FF", 0)] {
+            let text = ["01 C4 03 0E", flags, rest].join(" ");
+            let (report, records, answer) = run(LISTED, held, &text, status);
+            assert_eq!((report.outcome, report.written), (Outcome::N8, written));
+            assert_eq!((report.checks, report.microseconds), (0, 0));
+            assert_eq!(records, held);
+            assert_eq!(answer[..written], nak[..written]);
+            assert!(answer[written..].iter().all(|&byte| byte == 0xEE));
+        }
+    }
 }
 
 /// The answer names the processor that the message names, and both have what the row has.
