@@ -112,7 +112,7 @@ enum pomrozek_outcome {
     POMROZEK_N5 = 5,   /* authenticated boot, which is not offered on this part */
     POMROZEK_N6 = 6,   /* processor not on the board */
     POMROZEK_N7 = 7,   /* sender lacks the right */
-    POMROZEK_N8 = 8,   /* operand wrong */
+    POMROZEK_N8 = 8,   /* operand wrong, as a wait's matches (byte 10) above its waits (byte 9) */
     POMROZEK_R3 = 103, /* get status with no status word, or wait with fewer than its waits */
     POMROZEK_N9 = 9,   /* wait ran out */
     POMROZEK_OK = 0    /* carried out */
