@@ -45,6 +45,10 @@ pub or-false-left : (x y : Bool) → (x || y) ≡ false → x ≡ false
 or-false-left true y p = p
 or-false-left false y p = refl
 
+pub or-false-right : (x y : Bool) → (x || y) ≡ false → y ≡ false
+or-false-right true y p = clash {x = true} refl p
+or-false-right false y p = p
+
 pub cond-true {ℓ} : {A : Type ℓ} {x : Bool} (a b : A) → x ≡ true → cond x a b ≡ a
 cond-true a b p = rw p
 

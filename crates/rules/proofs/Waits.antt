@@ -2,13 +2,13 @@
 -- wherever a word can match the masks. Assumes nothing.
 use Prim.Native.Nat.{ℕ, zero, suc, _+_, _≤_, _<_, min}
 use mathlib.Core.Path.{_≡_, refl, sym, subst, subst⁻¹, ap, _∙_}
-use mathlib.Core.Bool.{Bool, true, false, cond, not, _&&_}
+use mathlib.Core.Bool.{Bool, true, false, cond, not, _&&_, _||_, and-false}
 use mathlib.Core.List.{List}
 use mathlib.Core.Logic.{⊎-elim}
 use native.Mathlib.Omega.{arith}
 use lib.ListN.{length, getD, replicate, length-replicate, getD-replicate}
-use lib.Dec.{eqb, leb}
-use borrow.Author.Tests.{leb-true, leb-false, lt-leb, le-ltb, eqb-false, not-true, ne-eqb}
+use lib.Dec.{eqb, ltb, leb}
+use borrow.Author.Tests.{ltb-true, ltb-false, leb-true, leb-false, eqb-false, not-true, le-ltb, le-leb, lt-leb, ne-eqb}
 use Rattle.rules.specs.declared.Kind.the-variants.{WaitStatus}
 use Rattle.rules.specs.declared.Outcome.{Outcome}
 use Rattle.rules.specs.declared.Outcome.the-variants.{R3, N9, Ok}
@@ -17,7 +17,7 @@ use Rattle.rules.specs.Table.{firstOf}
 use Rattle.rules.specs.Message.{Query, waitIn}
 use Rattle.rules.specs.Wait.{wordMatches, runAfter, endsRun, firstEnd, endingCheck, ranOut, waitGood}
 use Rattle.rules.specs.Outcome.{wordsMissing, waitFailed, byWords, carriedOut}
-use Rattle.rules.proofs.Tests.{decide, and-left, and-right, cond-true, cond-false}
+use Rattle.rules.proofs.Tests.{decide, and-left, or-false-left, or-false-right, cond-true, cond-false}
 
 module _ (w : Wait) (words : List ℕ) where
   -- a run is no longer than the checks made
@@ -73,17 +73,32 @@ module _ (w : Wait) (word : ℕ) (matching : wordMatches w word ≡ true) where
   unfolding ranOut
   not-run-out some within = rw (same-word-ends some within) (ne-eqb (w .matches) 0 (λ none. omega arith))
 
--- the second and the third of four tests
-middle-two : (a b c d : Bool) → (a && b && c && d) ≡ true → (b ≡ true) × (c ≡ true)
-middle-two a b c d all =
-    let three = and-left (a && b && c) d all in (and-right a b (and-left (a && b) c three), and-right (a && b) c three)
+-- ---- the numbers of a wait whose operands are right
 
--- the numbers of a wait whose operands are right
+-- the rule's three tests of them are two: matches that are at least 1 and not above waits make waits at least 1
+pub two-tests : (waits matches : ℕ) → (not (eqb waits 0) && not (eqb matches 0) && leb matches waits) ≡ not (eqb matches 0 || ltb waits matches)
+two-tests waits matches =
+    ⊎-elim
+    (λ (none : eqb matches 0 ≡ true). rw none (ap (λ (t : Bool). t && leb matches waits) (and-false (not (eqb waits 0)))))
+    (λ (some : eqb matches 0 ≡ false).
+    ⊎-elim
+    (λ (above : ltb waits matches ≡ true).
+    rw (some, above, lt-leb matches waits (ltb-true waits matches above)) (and-false (not (eqb waits 0) && true)))
+    (λ (within : ltb waits matches ≡ false).
+    let most = ltb-false waits matches within in
+    let one = eqb-false matches 0 some in
+    rw (some, within, le-leb matches waits most, ne-eqb waits 0 (λ z. omega arith)))
+    (decide (ltb waits matches)))
+    (decide (eqb matches 0))
+
 good-numbers : (w : Wait) → waitGood w ≡ true → (1 ≤ w .matches) × (w .matches ≤ w .waits)
 good-numbers w good =
-    let tests = middle-two (not (eqb (w .waits) 0)) (not (eqb (w .matches) 0)) (leb (w .matches) (w .waits)) _ good in
-    let some = eqb-false (w .matches) 0 (not-true (eqb (w .matches) 0) (tests .0)) in
-    (omega arith, leb-true (w .matches) (w .waits) (tests .1))
+    let none = eqb (w .matches) 0 in
+    let above = ltb (w .waits) (w .matches) in
+    let three = and-left (not (eqb (w .waits) 0) && not none && leb (w .matches) (w .waits)) _ good in
+    let right = not-true (none || above) (sym (two-tests (w .waits) (w .matches)) ∙ three) in
+    let some = eqb-false (w .matches) 0 (or-false-left none above right) in
+    (omega arith, ltb-false (w .waits) (w .matches) (or-false-right none above right))
 
 -- ---- the same of the table's rows R3 and N9
 
@@ -91,6 +106,7 @@ good-numbers w good =
 abbrev pub byItsWords : Query → Outcome
 byItsWords q = firstOf Ok (byWords q WaitStatus)
 
+-- a wait that fails is not carried out, whether or not words are missing
 failed-not-ok : (missing failed : Bool) → failed ≡ true → carriedOut (cond missing R3 (cond failed N9 Ok)) ≡ false
 unfolding carriedOut
 failed-not-ok true failed is = refl

@@ -269,6 +269,14 @@ mod tests {
         Met { setup, call: Call { channel: message[2], message, status: &[] }, report }
     }
 
+    /// What one fixed case reaches.
+    fn of_case(name: &str) -> Coverage {
+        let case = cases().into_iter().find(|case| case.name == name).unwrap();
+        let mut coverage = Coverage::default();
+        coverage.count_recording(&recording_of(&case).0);
+        coverage
+    }
+
     #[test]
     fn gaps_name_the_missing_and_the_impossible() {
         let (mut coverage, board, access) = (Coverage::default(), Board::first(), [0; 129]);
@@ -291,10 +299,7 @@ mod tests {
 
     #[test]
     fn shared_words_are_counted_by_direction() {
-        let name = "control set through 32 shows in the status of 33";
-        let case = cases().into_iter().find(|case| case.name == name).unwrap();
-        let mut coverage = Coverage::default();
-        coverage.count_recording(&recording_of(&case).0);
+        let coverage = of_case("control set through 32 shows in the status of 33");
         let missing = |gap: &str| coverage.gaps(false).contains(&gap.to_string());
         assert!(!missing("control set through 32, read through 33: 0"));
         assert!(missing("control set through 33, read through 32: 0"));
@@ -304,10 +309,7 @@ mod tests {
 
     #[test]
     fn hosts_in_several_places_are_counted_by_place() {
-        let name = "host in several places";
-        let case = cases().into_iter().find(|case| case.name == name).unwrap();
-        let mut coverage = Coverage::default();
-        coverage.count_recording(&recording_of(&case).0);
+        let coverage = of_case("host in several places");
         let missing = |gap: &str| coverage.gaps(true).contains(&gap.to_string());
         let met = ["secondary 0 and 1", "secondary 0 and 2", "secondary 1 and 2 refused"];
         assert!(met.iter().all(|gap| !missing(&format!("request by {gap}: 0"))));
