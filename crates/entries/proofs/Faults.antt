@@ -1,53 +1,75 @@
--- Laws of one entry: the processors that the entries before it name, and what the code's tests say of A5 and A7. Assumes nothing.
-use Prim.Native.Nat.{ℕ, suc, _+_, _*_, _<_, _≤_}
-use native.Mathlib.Nat.{add-zero}
+-- Laws of one entry: the numbers that the entries before it name, what is left to decide after it, and what the code's tests say of A5 and A7.
+-- Assumes nothing.
+use Prim.Native.Nat.{ℕ, zero, suc, _+_, _*_, _-_, _<_, _≤_}
+use native.Mathlib.Nat.{add-zero, mul-le-mul}
+use native.Mathlib.Numerals.{add-one}
 use native.Mathlib.Omega.{arith}
 use mathlib.Core.Path.{_≡_, refl, sym, ap, ap₂, subst, _∙_}
-use mathlib.Core.Bool.{Bool, true, false, not, _&&_, _||_, and-false}
-use mathlib.Core.List.{List, [], _∷_}
+use mathlib.Core.Bool.{Bool, true, false, not, _||_, and-false}
+use mathlib.Core.List.{List, _∷_}
 use mathlib.Core.Logic.{⊎-elim}
 use lib.ListN.{getD, drop}
 use lib.Seq.{getD-take, getD-drop}
 use lib.Dec.{eqb}
 use borrow.Author.Tests.{le-ltb, lt-ltb, eqb-true, ne-eqb}
-use Rattle.rules.specs.Table.{anyOf}
+use Rattle.rules.specs.declared.Verdict.{Verdict}
+use Rattle.rules.specs.declared.Verdict.the-variants.{Accepted}
+use Rattle.rules.specs.Table.{Line, firstOf, anyOf}
 use Rattle.rules.specs.Bytes.{byteAt}
 use Rattle.rules.specs.Board.{Board, activeHost, rowOf, onBoard}
-use Rattle.rules.specs.AccessList.{partAt, processorIn, used, namedIn}
-use Rattle.rules.proofs.Tests.{decide}
-use Rattle.entries.specs.Entries.{partsBefore, writtenIn}
+use Rattle.rules.specs.Substructure.{partAt, partsFrom, numberIn, used, names, namedIn, inTurn}
+use Rattle.rules.proofs.Tests.{decide, firstOf-append}
+use Rattle.rules.proofs.Parts.{number-at, parts-next}
+use Rattle.entries.specs.Entries.{partsBefore, writtenBefore, verdictFrom}
 
--- ---- A6: the entries before
-
--- an entry's processor is its first byte
-processor-at : (list : List ℕ) (e : ℕ) → processorIn (partAt list e) ≡ byteAt list (4 + 9 * e)
-processor-at list e =
-    getD-take 9 (drop (4 + 9 * e) list) 0 0 (omega arith)
-    ∙ getD-drop (4 + 9 * e) list 0 0
-    ∙ ap (λ (i : ℕ). getD list i 0) (add-zero (4 + 9 * e))
+-- ---- A6 and B7: the entries before
 
 -- the newest of the entries before i, where j is one less
-pub written-newest : (list : List ℕ) (i j p : ℕ) → i ≡ suc j
-    → writtenIn (partsBefore list i) p ≡ (eqb (byteAt list (4 + 9 * j)) p || writtenIn (partsBefore list j) p)
-unfolding writtenIn anyOf partsBefore
-written-newest list i j p next =
-    ap (λ (n : ℕ). writtenIn (partsBefore list n) p) next
-    ∙ ap (λ (x : ℕ). eqb x p || writtenIn (partsBefore list j) p) (processor-at list j)
+pub written-newest : (width : ℕ) (bytes : List ℕ) (i j n : ℕ) → i ≡ suc j
+    → writtenBefore width bytes i n ≡ (eqb (byteAt bytes (4 + width * j)) n || writtenBefore width bytes j n)
+unfolding writtenBefore
+written-newest width bytes i j n next = ap (λ (m : ℕ). writtenBefore width bytes m n) next
 
--- an entry that names a processor but 0 is used
-used-names : (part : List ℕ) (p : ℕ) → (p ≡ 0 → ⊥) → (used part && eqb (processorIn part) p) ≡ eqb (processorIn part) p
-used-names part p some =
+-- an entry that has a number but 0 is used
+used-names : (part : List ℕ) (n : ℕ) → (n ≡ 0 → ⊥) → names n part ≡ eqb (numberIn part) n
+used-names part n some =
     ⊎-elim
-    (λ (t : eqb (processorIn part) p ≡ true).
-    let is = eqb-true (processorIn part) p t in rw (ne-eqb (processorIn part) 0 (λ z. some (sym is ∙ z))))
-    (λ (f : eqb (processorIn part) p ≡ false). rw f (and-false (used part)))
-    (decide (eqb (processorIn part) p))
+    (λ (t : eqb (numberIn part) n ≡ true).
+    let is = eqb-true (numberIn part) n t in rw (ne-eqb (numberIn part) 0 (λ z. some (sym is ∙ z))))
+    (λ (f : eqb (numberIn part) n ≡ false). rw f (and-false (used part)))
+    (decide (eqb (numberIn part) n))
 
--- so what is written of a processor but 0 is what A6 asks for
-pub written-named : (entries : List (List ℕ)) (p : ℕ) → (p ≡ 0 → ⊥) → writtenIn entries p ≡ namedIn entries p
-unfolding writtenIn namedIn anyOf
-written-named [] p some = refl
-written-named (part ∷ rest) p some = ap₂ _||_ (sym (used-names part p some)) (written-named rest p some)
+-- so what is written of a number but 0 is what A6 and B7 ask for
+pub written-named : (width : ℕ) (bytes : List ℕ) (e n : ℕ) → 0 < width → (n ≡ 0 → ⊥) → writtenBefore width bytes e n ≡ namedIn (partsBefore width bytes e) n
+unfolding writtenBefore partsBefore namedIn anyOf
+written-named width bytes zero n some used-one = refl
+written-named width bytes (suc e) n some used-one =
+    ap₂ _||_
+    (ap (λ (x : ℕ). eqb x n) (sym (number-at width bytes e some)) ∙ sym (used-names (partAt width bytes e) n used-one))
+    (written-named width bytes e n some used-one)
+
+-- the place of a number is small
+pub place-small : (width i : ℕ) → width ≤ 255 → i ≤ 255 → width * i ≤ 65025
+place-small width i low high = mul-le-mul low high
+
+-- ---- the entries in turn
+
+-- what the entries from e on come to is what entry e comes to before those from e + 1 on
+pub from-entry : (lines : List (List ℕ) → List ℕ → List (Line Verdict)) (width : ℕ) (bytes : List ℕ) (e : ℕ) → e < 32
+    → verdictFrom lines width bytes e ≡ firstOf (verdictFrom lines width bytes (e + 1)) (lines (partsBefore width bytes e) (partAt width bytes e))
+unfolding verdictFrom partsBefore inTurn
+from-entry lines width bytes e h =
+    let own = lines (partsBefore width bytes e) (partAt width bytes e) in
+    ap (λ (parts : List (List ℕ)). firstOf Accepted (inTurn lines (partsBefore width bytes e) parts)) (parts-next width bytes e h)
+    ∙ firstOf-append Accepted own
+    (inTurn lines (partAt width bytes e ∷ partsBefore width bytes e) (partsFrom width bytes (e + 1) (32 - (e + 1))))
+    ∙ ap (λ (n : ℕ). firstOf (firstOf Accepted (inTurn lines (partsBefore width bytes n) (partsFrom width bytes (e + 1) (32 - (e + 1))))) own)
+    (sym (add-one e))
+
+-- after the last there is no fault
+pub from-last : (lines : List (List ℕ) → List ℕ → List (Line Verdict)) (width : ℕ) (bytes : List ℕ) (e : ℕ) → e ≡ 32 → verdictFrom lines width bytes e ≡ Accepted
+unfolding verdictFrom partsFrom inTurn firstOf
+from-last lines width bytes e last = rw last
 
 -- ---- A5 and A7: what the code's tests say
 

@@ -1,26 +1,35 @@
--- One entry of an access list, after those before it: document 01's A5 to A7, and the processors that the entries before have. An entry is
--- a nine-byte part of the list, as rules/specs/AccessList.antt cuts it. Assumes nothing.
-use Prim.Native.Nat.{ℕ, zero, suc}
-use mathlib.Core.Bool.{Bool, not}
+-- One entry of a substructure, after those before it: the numbers that the entries before have, and what is left to decide when a loop comes to it.
+-- Of an access list document 01's A5 to A7. An entry is a part of the bytes, as rules/specs/Substructure.antt cuts it. Assumes nothing.
+use Prim.Native.Nat.{ℕ, zero, suc, _+_, _*_, _-_}
+use mathlib.Core.Bool.{Bool, false, not, _||_}
 use mathlib.Core.List.{List, [], _∷_}
 use lib.Dec.{eqb}
 use Rattle.rules.specs.declared.Verdict.{Verdict}
 use Rattle.rules.specs.declared.Verdict.the-variants.{Accepted, A5, A6, A7}
-use Rattle.rules.specs.Table.{_gives_, firstOf, anyOf}
+use Rattle.rules.specs.Table.{Line, _gives_, firstOf}
+use Rattle.rules.specs.Bytes.{byteAt}
 use Rattle.rules.specs.Board.{Board, activeHost, onBoard}
-use Rattle.rules.specs.AccessList.{partAt, processorIn, masterIn}
+use Rattle.rules.specs.Substructure.{partAt, partsFrom, inTurn}
+use Rattle.rules.specs.AccessList.{processorIn, masterIn}
 
 -- the parts before entry e, newest first
-unfoldable pub partsBefore : List ℕ → ℕ → List (List ℕ)
-partsBefore list zero = []
-partsBefore list (suc e) = partAt list e ∷ partsBefore list e
+unfoldable pub partsBefore : ℕ → List ℕ → ℕ → List (List ℕ)
+partsBefore width bytes zero = []
+partsBefore width bytes (suc e) = partAt width bytes e ∷ partsBefore width bytes e
 
--- an entry of these, used or not, has p written as its processor. Where p is not 0 that is `namedIn`, A6's test
-unfoldable pub writtenIn : List (List ℕ) → ℕ → Bool
-writtenIn entries p = anyOf (λ (part : List ℕ). eqb (processorIn part) p) entries
+-- an entry before entry e, used or not, has n as its first byte. Where n is not 0 that is `namedIn` of those entries, the test of A6 and B7
+unfoldable pub writtenBefore : ℕ → List ℕ → ℕ → ℕ → Bool
+writtenBefore width bytes zero n = false
+writtenBefore width bytes (suc e) n = eqb (byteAt bytes (4 + width * e)) n || writtenBefore width bytes e n
+
+-- what the entries from e on come to, each with its lines after the entries before it
+unfoldable pub verdictFrom : (List (List ℕ) → List ℕ → List (Line Verdict)) → ℕ → List ℕ → ℕ → Verdict
+verdictFrom lines width bytes e = firstOf Accepted (inTurn lines (partsBefore width bytes e) (partsFrom width bytes e (32 - e)))
 
 -- A5 to A7 of a used entry, where `named` says whether an earlier one names its processor
+abbrev pub faultLines : Board → Bool → List ℕ → List (Line Verdict)
+faultLines b named part =
+    (not (onBoard b (processorIn part)) gives A5) ∷ (named gives A6) ∷ (not (activeHost b (masterIn part)) gives A7) ∷ []
+
 unfoldable pub faultOf : Board → Bool → List ℕ → Verdict
-faultOf b named part =
-    firstOf Accepted
-    ((not (onBoard b (processorIn part)) gives A5) ∷ (named gives A6) ∷ (not (activeHost b (masterIn part)) gives A7) ∷ [])
+faultOf b named part = firstOf Accepted (faultLines b named part)

@@ -1,8 +1,8 @@
-// One entry of an access list, judged as its own nine-byte part of the list: document 01's A5 to A7,
-// and whether an entry before it names its processor. The rules are specs/Entries.antt.
+// One entry of a substructure: whether an entry before it names its number. One of an access list, judged
+// as its own nine-byte part of the list: document 01's A5 to A7. The rules are specs/Entries.antt.
 ghost use mathlib.Core.Path.{_≡_};
 ghost use Rattle.board.specs.Memory.{boardIn};
-ghost use Rattle.entries.specs.Entries.{partsBefore, writtenIn, faultOf};
+ghost use Rattle.entries.specs.Entries.{writtenBefore, faultOf};
 use board::ROWS;
 use board::is_active;
 use board::row_of;
@@ -10,15 +10,15 @@ use rules::Verdict;
 use wire::byte_at;
 use wire::u16_at;
 
-// Whether an entry before entry `e` names `processor`, newest first. An entry that names one but 0 is
-// used; for 0 the answer is whether an entry before is unused.
-pub fn named_before(list: &[u8], e: u8, processor: u8) -> bool
-    ensures { λ r. ⌜ r ≡ writtenIn (partsBefore (now (list .entry)) e) processor ⌝ }
+// Whether an entry of `width` bytes before entry `e` names `number`, newest first. An entry that names one
+// but 0 is used; for 0 the answer is whether an entry before is unused.
+pub fn named_before(bytes: &[u8], width: u8, e: u8, number: u8) -> bool
+    ensures { λ r. ⌜ r ≡ writtenBefore width (now (bytes .entry)) e number ⌝ }
 {
     let mut i = e as usize;
     while i > 0 {
         i -= 1;
-        if byte_at(list, 4 + 9 * i) == processor {
+        if byte_at(bytes, 4 + width as usize * i) == number {
             return true;
         }
     }

@@ -1,51 +1,37 @@
 -- Laws of the judge: what one entry comes to, what is left after it, and what an accepted list is. Assumes nothing.
 use Prim.Native.Nat.{ℕ, zero, suc, _+_, _*_, _-_, _<_}
 use native.Mathlib.Nat.{add-sub-cancel-left}
-use native.Mathlib.Numerals.{add-one}
 use native.Mathlib.Omega.{arith}
 use mathlib.Core.Path.{_≡_, refl, sym, ap, _∙_}
 use mathlib.Core.Bool.{Bool, true, false, cond, not, _||_}
-use mathlib.Core.List.{List, _∷_}
+use mathlib.Core.List.{List}
 use mathlib.Core.Logic.{⊎-elim}
 use lib.ListN.{length, take, drop}
 use lib.Dec.{eqb}
 use borrow.Author.Tests.{eqb-true, ne-eqb}
 use Rattle.rules.specs.declared.Verdict.{Verdict}
-use Rattle.rules.specs.declared.Verdict.the-variants.{Accepted, A1, A2, A5, A6, A7, A8}
+use Rattle.rules.specs.declared.Verdict.the-variants.{Accepted, A1, A2, A8}
 use Rattle.rules.specs.Table.{firstOf, anyOf}
 use Rattle.rules.specs.Bytes.{u16At}
-use Rattle.rules.specs.Board.{Board, boardHost, activeHost, onBoard}
-use Rattle.rules.specs.AccessList.{partAt, partsFrom, processorIn, masterIn, secondariesIn, namedIn, badSecondary, entryTable, entriesTable, listTable, verdictOf}
-use Rattle.rules.proofs.Tests.{decide, firstOf-append}
-use Rattle.entries.specs.Entries.{partsBefore, writtenIn, faultOf}
-use Rattle.entries.proofs.Faults.{written-named}
-use Rattle.lists.specs.Judged.{badFrom, verdictFrom}
+use Rattle.rules.specs.Verdict.{accepted}
+use Rattle.rules.specs.Board.{Board, boardHost}
+use Rattle.rules.specs.Substructure.{partAt, namedIn}
+use Rattle.rules.specs.AccessList.{processorIn, secondariesIn, badSecondary, entryTable, listTable, verdictOf}
+use Rattle.rules.proofs.Tests.{decide, noneGood, none-falls, none-stops}
+use Rattle.rules.proofs.Verdicts.{not-accepted}
+use Rattle.entries.specs.Entries.{partsBefore, writtenBefore, verdictFrom, faultLines, faultOf}
+use Rattle.entries.proofs.Faults.{written-named, from-entry}
+use Rattle.lists.specs.Judged.{badFrom}
 
 -- entry e's part, as the code cuts it out
-pub part-is : (list : List ℕ) (e : ℕ) → take (4 + 9 * e + 9 - (4 + 9 * e)) (drop (4 + 9 * e) list) ≡ partAt list e
+pub part-is : (list : List ℕ) (e : ℕ) → take (4 + 9 * e + 9 - (4 + 9 * e)) (drop (4 + 9 * e) list) ≡ partAt 9 list e
 part-is list e = ap (λ (n : ℕ). take n (drop (4 + 9 * e) list)) (add-sub-cancel-left (4 + 9 * e) 9)
 
 -- ---- A5 to A8: one entry
 
--- A5 to A7 of any three tests
-threeOf : Bool → Bool → Bool → Verdict
-threeOf a b c = cond a A5 (cond b A6 (cond c A7 Accepted))
-
--- a fault among A5 to A7 comes before A8 and the entries below
-three-bad : (a b c : Bool) (rest : Verdict) → (threeOf a b c ≡ Accepted → ⊥) → cond a A5 (cond b A6 (cond c A7 rest)) ≡ threeOf a b c
-unfolding threeOf
-three-bad true b c rest bad = refl
-three-bad false true c rest bad = refl
-three-bad false false true rest bad = refl
-three-bad false false false rest bad = absurd (bad refl)
-
--- without one A8 and the entries below decide
-three-good : (a b c : Bool) (rest : Verdict) → threeOf a b c ≡ Accepted → cond a A5 (cond b A6 (cond c A7 rest)) ≡ rest
-unfolding threeOf
-three-good true b c rest good = cc
-three-good false true c rest good = cc
-three-good false false true rest good = cc
-three-good false false false rest good = refl
+-- A8 and the entries below
+abbrev rest-of : Board → List ℕ → Verdict → Verdict
+rest-of b part rest = cond (anyOf (badSecondary b) (secondariesIn part)) A8 rest
 
 module _ (b : Board) (rest : Verdict) (earlier : List (List ℕ)) (part : List ℕ) where
   -- an unused entry is passed over
@@ -55,29 +41,25 @@ module _ (b : Board) (rest : Verdict) (earlier : List (List ℕ)) (part : List �
 
   -- the four lines of a used entry
   used-entry : (processorIn part ≡ 0 → ⊥)
-      → firstOf rest (entryTable b earlier part)
-      ≡ cond (not (onBoard b (processorIn part))) A5
-      (cond (namedIn earlier (processorIn part)) A6
-      (cond (not (activeHost b (masterIn part))) A7
-      (cond (anyOf (badSecondary b) (secondariesIn part)) A8 rest)))
+      → firstOf rest (entryTable b earlier part) ≡ firstOf (rest-of b part rest) (faultLines b (namedIn earlier (processorIn part)) part)
   unfolding firstOf entryTable
   used-entry some = rw (ne-eqb (processorIn part) 0 some)
 
-  bad-entry : (processorIn part ≡ 0 → ⊥) → (faultOf b (namedIn earlier (processorIn part)) part ≡ Accepted → ⊥)
+  -- a fault among A5 to A7 comes before A8 and the entries below
+  bad-entry : (processorIn part ≡ 0 → ⊥) → accepted (faultOf b (namedIn earlier (processorIn part)) part) ≡ false
       → firstOf rest (entryTable b earlier part) ≡ faultOf b (namedIn earlier (processorIn part)) part
-  unfolding faultOf firstOf threeOf
+  unfolding faultOf accepted
   bad-entry some bad =
       used-entry some
-      ∙ three-bad (not (onBoard b (processorIn part))) (namedIn earlier (processorIn part))
-      (not (activeHost b (masterIn part))) _ bad
+      ∙ none-stops accepted Accepted (rest-of b part rest) (faultLines b (namedIn earlier (processorIn part)) part) refl bad
 
-  good-entry : (processorIn part ≡ 0 → ⊥) → faultOf b (namedIn earlier (processorIn part)) part ≡ Accepted
-      → firstOf rest (entryTable b earlier part) ≡ cond (anyOf (badSecondary b) (secondariesIn part)) A8 rest
-  unfolding faultOf firstOf threeOf
+  -- without one these decide
+  good-entry : (processorIn part ≡ 0 → ⊥) → accepted (faultOf b (namedIn earlier (processorIn part)) part) ≡ true
+      → firstOf rest (entryTable b earlier part) ≡ rest-of b part rest
+  unfolding faultOf noneGood accepted
   good-entry some good =
       used-entry some
-      ∙ three-good (not (onBoard b (processorIn part))) (namedIn earlier (processorIn part))
-      (not (activeHost b (masterIn part))) _ good
+      ∙ none-falls accepted Accepted (rest-of b part rest) (faultLines b (namedIn earlier (processorIn part)) part) refl good
 
 -- ---- A8: the secondaries in turn
 
@@ -108,51 +90,42 @@ secondaries-good b part k all = rw all
 
 -- ---- the entries in turn
 
--- what the entries from e on come to is what entry e comes to before those from e + 1 on
-from-entry : (b : Board) (list : List ℕ) (e : ℕ) → e < 32
-    → verdictFrom b list e ≡ firstOf (verdictFrom b list (e + 1)) (entryTable b (partsBefore list e) (partAt list e))
-unfolding verdictFrom partsBefore partsFrom entriesTable
-from-entry b list e h =
-    let left : 32 - e ≡ suc (32 - (e + 1)) = omega arith in
-    ap (λ (n : ℕ). firstOf Accepted (entriesTable b (partsBefore list e) (partsFrom list e n))) left
-    ∙ firstOf-append Accepted (entryTable b (partsBefore list e) (partAt list e))
-    (entriesTable b (partAt list e ∷ partsBefore list e) (partsFrom list (suc e) (32 - (e + 1))))
-    ∙ ap (λ (n : ℕ). firstOf (firstOf Accepted (entriesTable b (partsBefore list n) (partsFrom list n (32 - (e + 1)))))
-    (entryTable b (partsBefore list e) (partAt list e)))
-    (sym (add-one e))
+-- what the entries from e on come to
+abbrev pub left-from : Board → List ℕ → ℕ → Verdict
+left-from b list e = verdictFrom (entryTable b) 9 list e
 
 -- a turn of the loop: what it has read is the entry's part and its processor
-module _ (b : Board) (list : List ℕ) (e : ℕ) {part : List ℕ} {p : ℕ} (h : e < 32) (is : part ≡ partAt list e) (at : p ≡ processorIn part) where
-  pub turn-unused : p ≡ 0 → verdictFrom b list e ≡ verdictFrom b list (e + 1)
+module _ (b : Board) (list : List ℕ) (e : ℕ) {part : List ℕ} {p : ℕ} (h : e < 32) (is : part ≡ partAt 9 list e) (at : p ≡ processorIn part) where
+  pub turn-unused : p ≡ 0 → left-from b list e ≡ left-from b list (e + 1)
   turn-unused none =
-      from-entry b list e h
-      ∙ unused-entry b (verdictFrom b list (e + 1)) (partsBefore list e) (partAt list e)
+      from-entry (entryTable b) 9 list e h
+      ∙ unused-entry b (left-from b list (e + 1)) (partsBefore 9 list e) (partAt 9 list e)
       (sym (ap (λ (l : List ℕ). processorIn l) is) ∙ sym at ∙ none)
 
   -- of a used entry also whether an earlier one names its processor, and A5 to A7
-  module _ {fault : Verdict} {named : Bool} (some : p ≡ 0 → ⊥) (before : named ≡ writtenIn (partsBefore list e) p)
+  module _ {fault : Verdict} {named : Bool} (some : p ≡ 0 → ⊥) (before : named ≡ writtenBefore 9 list e p)
       (judged : fault ≡ faultOf b named part) where
-    asked : named ≡ namedIn (partsBefore list e) p
-    asked = before ∙ written-named (partsBefore list e) p some
+    asked : named ≡ namedIn (partsBefore 9 list e) p
+    asked = before ∙ written-named 9 list e p (omega arith) some
 
-    names-one : processorIn (partAt list e) ≡ 0 → ⊥
+    names-one : processorIn (partAt 9 list e) ≡ 0 → ⊥
     names-one none = some (at ∙ ap (λ (l : List ℕ). processorIn l) is ∙ none)
 
-    whole : faultOf b (namedIn (partsBefore list e) (processorIn (partAt list e))) (partAt list e) ≡ fault
+    whole : faultOf b (namedIn (partsBefore 9 list e) (processorIn (partAt 9 list e))) (partAt 9 list e) ≡ fault
     whole = let named-is = asked in cc
 
-    pub turn-bad : (fault ≡ Accepted → ⊥) → verdictFrom b list e ≡ fault
+    pub turn-bad : (fault ≡ Accepted → ⊥) → left-from b list e ≡ fault
     turn-bad bad =
-        from-entry b list e h
-        ∙ bad-entry b (verdictFrom b list (e + 1)) (partsBefore list e) (partAt list e) names-one (λ good. bad (sym whole ∙ good))
+        from-entry (entryTable b) 9 list e h
+        ∙ bad-entry b (left-from b list (e + 1)) (partsBefore 9 list e) (partAt 9 list e) names-one (ap accepted whole ∙ not-accepted fault bad)
         ∙ whole
 
-    pub turn-good : fault ≡ Accepted → verdictFrom b list e ≡ cond (badFrom b part 0) A8 (verdictFrom b list (e + 1))
-    unfolding badFrom
+    pub turn-good : fault ≡ Accepted → left-from b list e ≡ cond (badFrom b part 0) A8 (left-from b list (e + 1))
+    unfolding badFrom accepted
     turn-good good =
-        from-entry b list e h
-        ∙ good-entry b (verdictFrom b list (e + 1)) (partsBefore list e) (partAt list e) names-one (whole ∙ good)
-        ∙ ap (λ (l : List ℕ). cond (badFrom b l 0) A8 (verdictFrom b list (e + 1))) (sym is)
+        from-entry (entryTable b) 9 list e h
+        ∙ good-entry b (left-from b list (e + 1)) (partsBefore 9 list e) (partAt 9 list e) names-one (ap accepted (whole ∙ good))
+        ∙ ap (λ (l : List ℕ). cond (badFrom b l 0) A8 (left-from b list (e + 1))) (sym is)
 
 -- ---- accepted or not
 

@@ -38,7 +38,7 @@ pub fn judge(board: &[u8; 576], listed: bool, list: &[u8]) -> Verdict
             e += 1;
             continue 'entries;
         }
-        match check_entry(board, part, named_before(list, e as u8, processor)) {
+        match check_entry(board, part, named_before(list, 9, e as u8, processor)) {
             Verdict::Accepted => {}
             fault => break 'entries fault,
         }

@@ -1,46 +1,66 @@
--- The list call, read as the rules' set-up: what the memory keeps afterwards is what it keeps of the rules' next state. Assumes nothing.
+-- The list call and the block call, read as the rules' set-up: what the memory keeps afterwards is what it keeps of the rules' next state. Assumes
+-- nothing.
 use Prim.Native.Nat.{ℕ}
-use mathlib.Core.Path.{_≡_, sym, ap, _∙_}
-use mathlib.Core.Bool.{Bool, true}
+use mathlib.Core.Path.{_≡_, refl, sym, ap, _∙_}
+use mathlib.Core.Bool.{Bool, true, cond}
 use mathlib.Core.List.{List, _∷_}
 use mathlib.Core.Logic.{⊎-elim}
+use Rattle.rules.specs.declared.Verdict.{Verdict}
 use Rattle.rules.specs.Board.{Board}
 use Rattle.rules.specs.Verdict.{accepted}
 use Rattle.rules.specs.AccessList.{Entry, entriesOf, verdictOf}
+use Rattle.rules.specs.Block.{listPart, blockVerdict}
 use Rattle.rules.specs.State.{listed, Records, State}
-use Rattle.rules.specs.Call.{list, verdictTo, taken, afterOffer}
+use Rattle.rules.specs.Call.{Offer, list, block, verdictTo, taken, afterOffer}
 use Rattle.rules.proofs.Tests.{decide, cond-true, cond-false}
 use Rattle.access.specs.Memory.{listedIn, entriesIn, someList, setupIn, keptSetup}
 use Rattle.access.proofs.Kept.{listed-some}
-use Rattle.loading.specs.Loaded.{wordsOf, accessAfter}
+use Rattle.loading.specs.Loaded.{inForce, accessAfter, accessAfterBlock}
 use Rattle.loading.proofs.Words.{words-read}
 
--- the set-up after a list call, of a state with this memory
-module _ (b : Board) (m bytes : List ℕ) (records : Records) where
-  before : State
+-- the set-up after an offer of a list, alone or in a block, of a state with this memory
+module _ (b : Board) (m : List ℕ) (records : Records) where
+  abbrev before : State
   before = record { setup = setupIn b m; records = records }
 
-  pub verdict-told : verdictTo (record { setup = setupIn b m; records = records }) (list bytes) ≡ verdictOf b (listedIn m) bytes
-  unfolding verdictTo setupIn
-  verdict-told = ap (λ (x : Bool). verdictOf b x bytes) (listed-some (listedIn m))
-
-  taken-setup : setupIn b (1 ∷ wordsOf (entriesOf b bytes)) ≡ keptSetup (taken before (list bytes) .setup)
-  unfolding before setupIn keptSetup taken listed listedIn
-  taken-setup = ap (λ (es : List Entry). record { board = b; source = someList true; entries = es }) (words-read b bytes)
-
-  kept-setup : setupIn b m ≡ keptSetup (before .setup)
-  unfolding before setupIn keptSetup
+  kept-setup : setupIn b m ≡ keptSetup (setupIn b m)
+  unfolding setupIn keptSetup
   kept-setup = ap (λ (x : Bool). record { board = b; source = someList x; entries = entriesIn m }) (sym (listed-some (listedIn m)))
 
-  pub setup-after : setupIn b (accessAfter b m bytes) ≡ keptSetup (afterOffer (record { setup = setupIn b m; records = records }) (list bytes) .setup)
-  unfolding before accessAfter afterOffer
-  setup-after =
-      let same = ap accepted verdict-told in
+  in-force-setup : (bytes : List ℕ) → setupIn b (inForce b bytes) ≡ record { board = b; source = someList true; entries = entriesOf b bytes }
+  unfolding setupIn listedIn
+  in-force-setup bytes = ap (λ (es : List Entry). record { board = b; source = someList true; entries = es }) (words-read b bytes)
+
+  -- where the offer comes to this verdict, and puts this list in force
+  after-offer : (o : Offer) (bytes : List ℕ) (v : Verdict) → verdictTo before o ≡ v
+      → record { board = b; source = someList true; entries = entriesOf b bytes } ≡ keptSetup (taken before o .setup)
+      → setupIn b (cond (accepted v) (inForce b bytes) m) ≡ keptSetup (afterOffer before o .setup)
+  unfolding afterOffer
+  after-offer o bytes v told takes =
+      let same = ap accepted told in
       ⊎-elim
       (λ ok.
-      ap (setupIn b) (cond-true _ _ ok) ∙ taken-setup
-      ∙ ap (λ (s : State). keptSetup (s .setup)) (sym (cond-true (taken before (list bytes)) before (same ∙ ok))))
+      ap (setupIn b) (cond-true _ _ ok) ∙ in-force-setup bytes ∙ takes
+      ∙ ap (λ (s : State). keptSetup (s .setup)) (sym (cond-true (taken before o) before (same ∙ ok))))
       (λ no.
       ap (setupIn b) (cond-false _ _ no) ∙ kept-setup
-      ∙ ap (λ (s : State). keptSetup (s .setup)) (sym (cond-false (taken before (list bytes)) before (same ∙ no))))
-      (decide (accepted (verdictOf b (listedIn m) bytes)))
+      ∙ ap (λ (s : State). keptSetup (s .setup)) (sym (cond-false (taken before o) before (same ∙ no))))
+      (decide (accepted v))
+
+  pub verdict-told : (bytes : List ℕ) → verdictTo before (list bytes) ≡ verdictOf b (listedIn m) bytes
+  unfolding verdictTo setupIn
+  verdict-told bytes = ap (λ (x : Bool). verdictOf b x bytes) (listed-some (listedIn m))
+
+  pub setup-after : (bytes : List ℕ) → setupIn b (accessAfter b m bytes) ≡ keptSetup (afterOffer before (list bytes) .setup)
+  unfolding accessAfter taken setupIn keptSetup listed
+  setup-after bytes = after-offer (list bytes) bytes (verdictOf b (listedIn m) bytes) (verdict-told bytes) refl
+
+  pub block-told : (major minor : ℕ) (bytes : List ℕ) → verdictTo before (block major minor bytes) ≡ blockVerdict b (listedIn m) major minor bytes
+  unfolding verdictTo setupIn
+  block-told major minor bytes = ap (λ (x : Bool). blockVerdict b x major minor bytes) (listed-some (listedIn m))
+
+  pub setup-after-block : (major minor : ℕ) (bytes : List ℕ)
+      → setupIn b (accessAfterBlock b m major minor bytes) ≡ keptSetup (afterOffer before (block major minor bytes) .setup)
+  unfolding accessAfterBlock taken setupIn keptSetup listed
+  setup-after-block major minor bytes =
+      after-offer (block major minor bytes) (listPart bytes) (blockVerdict b (listedIn m) major minor bytes) (block-told major minor bytes) refl

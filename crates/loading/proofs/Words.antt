@@ -5,7 +5,7 @@ use native.Mathlib.Nat.{add-zero}
 use native.Mathlib.Numerals.{add-one, one-add, towards-suc}
 use native.Mathlib.Omega.{arith}
 use mathlib.Core.Path.{_≡_, refl, sym, ap, subst, _∙_}
-use mathlib.Core.Bool.{Bool, true, false}
+use mathlib.Core.Bool.{Bool, true, false, cond}
 use mathlib.Core.List.{List, [], _∷_, _++_}
 use mathlib.Core.Logic.{⊎-elim}
 use lib.ListN.{length, set, drop, replicate}
@@ -18,7 +18,8 @@ use Rattle.rules.specs.Table.{tableOf}
 use Rattle.rules.specs.Bytes.{u16At}
 use Rattle.rules.specs.Board.{Board, rows, rowOf, onBoard}
 use Rattle.rules.specs.Verdict.{accepted}
-use Rattle.rules.specs.AccessList.{Entry, noEntry, partAt, partsFrom, processorIn, masterIn, secondariesIn, used, entryIn, withPart, withParts, noEntries, entriesOf, verdictOf}
+use Rattle.rules.specs.Substructure.{partAt, partsFrom, used}
+use Rattle.rules.specs.AccessList.{Entry, noEntry, processorIn, masterIn, secondariesIn, entryIn, withPart, withParts, noEntries, entriesOf, verdictOf}
 use Rattle.rules.proofs.Tests.{decide, cond-true, cond-false}
 use Rattle.rules.proofs.Verdicts.{not-accepted}
 use Rattle.access.specs.Memory.{listedIn, entryPlace, entryAt, entriesIn}
@@ -121,9 +122,9 @@ rows-none (suc n) = row (rows-none n)
 rows-before : (b : Board) (list : List ℕ) (e : ℕ) → Rows rows (entriesBefore b list e)
 unfolding entriesBefore noEntries
 rows-before b list zero = rows-none rows
-rows-before b list (suc e) = rows-part b (partAt list e) (rows-before b list e)
+rows-before b list (suc e) = rows-part b (partAt 9 list e) (rows-before b list e)
 
-from-before : (b : Board) (list : List ℕ) (e n : ℕ) → withParts b (partsFrom list e n) (entriesBefore b list e) ≡ entriesBefore b list (e + n)
+from-before : (b : Board) (list : List ℕ) (e n : ℕ) → withParts b (partsFrom 9 list e n) (entriesBefore b list e) ≡ entriesBefore b list (e + n)
 unfolding entriesBefore withParts partsFrom
 from-before b list e zero = ap (entriesBefore b list) (sym (add-zero e))
 from-before b list e (suc n) =
@@ -143,10 +144,10 @@ load-first b list zeros whole = rw (zeros, whole)
 
 -- a turn of the store: the words of one more part
 pub put-next : (b : Board) (list : List ℕ) (e : ℕ)
-    → putEntry b (partAt list e) (1 ∷ wordsOf (entriesBefore b list e)) ≡ 1 ∷ wordsOf (entriesBefore b list (e + 1))
+    → putEntry b (partAt 9 list e) (1 ∷ wordsOf (entriesBefore b list e)) ≡ 1 ∷ wordsOf (entriesBefore b list (e + 1))
 unfolding entriesBefore
 put-next b list e =
-    put-entry b (partAt list e) (rows-before b list e)
+    put-entry b (partAt 9 list e) (rows-before b list e)
     ∙ ap (λ (n : ℕ). 1 ∷ wordsOf (entriesBefore b list n)) (sym (add-one e))
 
 -- ---- read
@@ -190,20 +191,17 @@ pub clear-all : (m : List ℕ) → replicate (length m) 0 ++ drop (length m) m �
 clear-all [] = refl
 clear-all (x ∷ m) = ap (λ (l : List ℕ). 0 ∷ l) (clear-all m)
 
--- ---- the list call
+-- ---- an offer
 
--- what the code has read is whether a list was accepted before, and the verdict
-module _ (b : Board) (m list : List ℕ) {v : Verdict} {x : Bool} (judged : v ≡ verdictOf b x list) (asked : x ≡ listedIn m) where
-  told : v ≡ verdictOf b (listedIn m) list
-  told = judged ∙ ap (λ (y : Bool). verdictOf b y list) asked
+-- one that is refused leaves the memory, and one that is accepted puts its entries there
+module _ {v told : Verdict} (x m : List ℕ) (is : v ≡ told) where
+  pub refused : (v ≡ Accepted → ⊥) → m ≡ cond (accepted told) x m
+  refused bad = sym (cond-false x m (ap accepted (sym is) ∙ not-accepted v bad))
 
-  -- a refused list leaves the memory
-  pub refused : (v ≡ Accepted → ⊥) → (v ≡ verdictOf b (listedIn m) list) × (m ≡ accessAfter b m list)
-  unfolding accessAfter
-  refused bad = (told, sym (cond-false _ _ (ap accepted (sym told) ∙ not-accepted v bad)))
+  pub taken : v ≡ Accepted → x ≡ cond (accepted told) x m
+  unfolding accepted
+  taken good = sym (cond-true x m (ap accepted (sym is ∙ good)))
 
-  -- an accepted one puts its entries there
-  pub taken : v ≡ Accepted
-      → (Accepted ≡ verdictOf b (listedIn m) list) × (1 ∷ wordsOf (entriesOf b list) ≡ accessAfter b m list)
-  unfolding accessAfter accepted
-  taken good = (sym good ∙ told, sym (cond-true _ _ (ap accepted (sym told ∙ good))))
+-- the verdict, where the code has read whether something was accepted before
+pub verdict-read : {v : Verdict} {x : Bool} (told : Bool → Verdict) (m : List ℕ) → v ≡ told x → x ≡ listedIn m → v ≡ told (listedIn m)
+verdict-read told m judged asked = judged ∙ ap told asked

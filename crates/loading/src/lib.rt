@@ -1,16 +1,18 @@
-// The list call: an access list is judged and, where it is accepted, its entries are put into the
-// access memory by row, where crate access finds them. A refused list changes nothing.
+// The list call and the block call: an access list, alone or in a security board configuration, is judged
+// and, where it is accepted, its entries are put into the access memory by row, where crate access finds
+// them. A refused one changes nothing.
 ghost use mathlib.Core.Path.{_≡_};
-ghost use mathlib.Core.List.{_∷_};
 ghost use lib.ListN.{length, replicate};
-ghost use Rattle.rules.specs.AccessList.{entriesOf, verdictOf};
+ghost use Rattle.rules.specs.AccessList.{verdictOf};
 ghost use Rattle.board.specs.Memory.{boardIn};
 ghost use Rattle.access.specs.Memory.{listedIn};
-ghost use Rattle.loading.specs.Loaded.{wordsOf, accessAfter, putEntry};
+ghost use Rattle.rules.specs.Block.{blockVerdict, reportedHost};
+ghost use Rattle.loading.specs.Loaded.{inForce, accessAfter, accessAfterBlock, putEntry};
 use access::is_listed;
 use board::ROWS;
 use board::row_of;
 use lists::judge;
+use rules::BlockReport;
 use rules::Verdict;
 use wire::byte_at;
 use wire::u16_at;
@@ -50,7 +52,7 @@ fn store_entry(board: &[u8; 576], memory: &mut [u16], part: &[u8])
 fn load(board: &[u8; 576], memory: &mut [u16], list: &[u8])
     requires { ⌜ length (now memory) ≡ 129 ⌝ }
     requires { ⌜ length (now list) ≡ 292 ⌝ }
-    ensures { λ _. ⌜ now (memory .exit) ≡ 1 ∷ wordsOf (entriesOf (boardIn (now (board .entry))) (now (list .entry))) ⌝ }
+    ensures { λ _. ⌜ now (memory .exit) ≡ inForce (boardIn (now (board .entry))) (now (list .entry)) ⌝ }
 {
     clear(memory);
     memory[0] = 1;
@@ -74,4 +76,28 @@ pub fn offer_list(board: &[u8; 576], access: &mut [u16; 129], list: &[u8]) -> Ve
     }
     load(board, memory, list);
     Verdict::Accepted
+}
+
+// The block call: in the same way, of a block with the ABI bytes `major` and `minor`. Of a good one the list
+// is loaded, as the lone list would be.
+pub fn offer_block(
+    board: &[u8; 576],
+    access: &mut [u16; 129],
+    major: u8,
+    minor: u8,
+    block: &[u8],
+) -> BlockReport
+    ensures verdict { λ r. ⌜ r .verdict ≡ blockVerdict (boardIn (now (board .entry))) (listedIn (now (access .entry))) major minor (now (block .entry)) ⌝ }
+    ensures host { λ r. ⌜ r .host ≡ reportedHost (r .verdict) (now (block .entry)) ⌝ }
+    ensures memory { λ _. ⌜ now (access .exit) ≡ accessAfterBlock (boardIn (now (board .entry))) (now (access .entry)) major minor (now (block .entry)) ⌝ }
+{
+    let memory = &mut access[..];
+    let report = blocks::judge(board, is_listed(memory), major, minor, block);
+    let verdict = report.verdict;
+    match verdict {
+        Verdict::Accepted => {}
+        _ => return report,
+    }
+    load(board, memory, &block[2..294]);
+    report
 }

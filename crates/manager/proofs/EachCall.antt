@@ -23,7 +23,7 @@ use Rattle.rules.specs.Outcome.{View, admission, outcomeTable, outcomeOf, carri
 use Rattle.rules.specs.Effect.{effectOf, recordAfter}
 use Rattle.rules.specs.Answer.{ackBytes, bytesFor, answerBytes, answerOf, reportOf, bufferAfter}
 use Rattle.rules.specs.State.{Setup, State, viewOf, putIn, stored}
-use Rattle.rules.specs.Call.{Offer, board, list, verdictTo, taken, afterOffer, afterMessage, answerTo, offer, next}
+use Rattle.rules.specs.Call.{Offer, board, list, block, verdictTo, taken, afterOffer, afterMessage, answerTo, offer, next}
 use Rattle.rules.proofs.Tests.{decide, cond-true, cond-false}
 use Rattle.rules.proofs.Rights.{allowed}
 use Rattle.board.specs.Memory.{boardIn}
@@ -31,8 +31,8 @@ use Rattle.board.proofs.Read.{board-back}
 use Rattle.boards.specs.Filled.{boardAfter}
 use Rattle.access.specs.Memory.{listedIn, entriesIn, someList, setupIn, keptSetup}
 use Rattle.access.proofs.Kept.{listed-some}
-use Rattle.loading.specs.Loaded.{accessAfter}
-use Rattle.loading.proofs.Offers.{setup-after}
+use Rattle.loading.specs.Loaded.{accessAfter, accessAfterBlock}
+use Rattle.loading.proofs.Offers.{setup-after, setup-after-block}
 use Rattle.records.specs.Memory.{recordAt, recordsIn, stateIn, kept, viewIn}
 use Rattle.records.proofs.LentMemory.{record-length, record-same, store-same, records-store, view-in}
 use Rattle.operations.specs.declared.Decision.{Decision}
@@ -160,16 +160,28 @@ offer-keeps-records : (s : State) (o : Offer) → afterOffer s o .records ≡ s 
 unfolding afterOffer taken
 offer-keeps-records s (board bytes) = ⊎-elim (λ t. rw t) (λ f. rw f) (decide (accepted (verdictTo s (board bytes))))
 offer-keeps-records s (list bytes) = ⊎-elim (λ t. rw t) (λ f. rw f) (decide (accepted (verdictTo s (list bytes))))
+offer-keeps-records s (block major minor bytes) =
+    ⊎-elim (λ t. rw t) (λ f. rw f) (decide (accepted (verdictTo s (block major minor bytes))))
 
--- an access memory after the list call, read with any records, holds what is kept of the rules' next state
-pub list-state : (b : Board) (a bytes records : List ℕ) → stateIn b (accessAfter b a bytes) records ≡ kept (next (stateIn b a records) (offer (list bytes)))
+-- an access memory after the list call or the block call, read with any records, holds what is kept of the rules' next state
+offer-state : (b : Board) (a a′ records : List ℕ) (o : Offer)
+    → setupIn b a′ ≡ keptSetup (afterOffer (record { setup = setupIn b a; records = recordsIn records }) o .setup)
+    → stateIn b a′ records ≡ kept (next (stateIn b a records) (offer o))
 unfolding stateIn next kept
-list-state b a bytes records =
+offer-state b a a′ records o left =
     λ t.
     record {
-      setup = setup-after b a bytes (recordsIn records) t;
-      records = sym (offer-keeps-records (record { setup = setupIn b a; records = recordsIn records }) (list bytes)) t;
+      setup = left t;
+      records = sym (offer-keeps-records (record { setup = setupIn b a; records = recordsIn records }) o) t;
     }
+
+pub list-state : (b : Board) (a bytes records : List ℕ) → stateIn b (accessAfter b a bytes) records ≡ kept (next (stateIn b a records) (offer (list bytes)))
+list-state b a bytes records = offer-state b a (accessAfter b a bytes) records (list bytes) (setup-after b a (recordsIn records) bytes)
+
+pub block-state : (b : Board) (a : List ℕ) (major minor : ℕ) (bytes records : List ℕ)
+    → stateIn b (accessAfterBlock b a major minor bytes) records ≡ kept (next (stateIn b a records) (offer (block major minor bytes)))
+block-state b a major minor bytes records =
+    offer-state b a (accessAfterBlock b a major minor bytes) records (block major minor bytes) (setup-after-block b a (recordsIn records) major minor bytes)
 
 -- what is kept of a set-up that was read out of memory is that set-up
 read-kept : (b : Board) (a : List ℕ) → setupIn b a ≡ keptSetup (setupIn b a)

@@ -1,11 +1,11 @@
-// The board call, the list call and the message call. A message is tested by the outcome table of
+// The board call, the list call, the block call and the message call. A message is tested by the outcome table of
 // document 01, row by row: first the rows that every message passes alike, then those of its type, which
 // also change the record. The answer is written last.
 ghost use mathlib.Core.Path.{_≡_};
 ghost use Rattle.rules.specs.declared.Outcome.the-variants.{Ok};
 ghost use Rattle.rules.specs.Description.{ours};
 ghost use Rattle.board.specs.Memory.{boardIn, boardBytes};
-ghost use Rattle.manager.specs.Calls.{lending, BoardCall, ListCall, MessageCall};
+ghost use Rattle.manager.specs.Calls.{lending, BlockCall, BoardCall, ListCall, MessageCall};
 ghost use Rattle.rules.specs.Message.{query};
 ghost use Rattle.manager.specs.Decision.{Decides};
 use access::is_listed;
@@ -13,6 +13,7 @@ use dispatch::by_kind;
 use operations::Decision;
 use operations::outcome_alone;
 use replies::write_answer;
+use rules::BlockReport;
 use rules::Outcome;
 use rules::Report;
 use rules::Verdict;
@@ -34,12 +35,26 @@ pub fn offer_board(board: &mut [u8; 576], access: &[u16; 129], description: &[u8
     boards::offer_board(board, is_listed(&access[..]), description)
 }
 
-// Offers an access list. The first good one is taken and is in force from then on; a refused one
-// changes nothing.
+// Offers an access list. The first good one is taken and is in force from then on, unless a block was taken
+// before; a refused one changes nothing.
 pub fn offer_list(board: &[u8; 576], access: &mut [u16; 129], list: &[u8]) -> Verdict
     ensures { λ r. ⌜ ListCall (boardIn (now (board .entry))) (now (access .entry)) (now (list .entry)) (now (access .exit)) r ⌝ }
 {
     loading::offer_list(board, access, list)
+}
+
+// Offers a security board configuration, which must have the ABI bytes `major` and `minor`. The first list or
+// block that is good is taken; of a block its list is then in force. A refused one changes nothing.
+pub fn offer_block(
+    board: &[u8; 576],
+    access: &mut [u16; 129],
+    major: u8,
+    minor: u8,
+    block: &[u8],
+) -> BlockReport
+    ensures { λ r. ⌜ BlockCall (boardIn (now (board .entry))) (now (access .entry)) major minor (now (block .entry)) (now (access .exit)) r ⌝ }
+{
+    loading::offer_block(board, access, major, minor, block)
 }
 
 // What a message call comes to, by the whole table, with the effect of OK.

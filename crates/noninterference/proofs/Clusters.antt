@@ -10,7 +10,8 @@ use Rattle.rules.specs.Table.{firstOf, anyOf, allOf, placeOf, tableOf}
 use Rattle.rules.specs.Board.{Board, boardHost, activeHost, rowOf, onBoard, classAt, classOf, homeAt, maskOf}
 use Rattle.rules.specs.Description.{ourDescription, listsProcessor, markIn, rowIn, classIn, sharedCluster, sharedIn, homeIn, boardOf, ours}
 use Rattle.rules.specs.Verdict.{accepted}
-use Rattle.rules.specs.AccessList.{noEntry, parts, partsFrom, namedIn, entryTable, entriesTable, listTable, verdictOf, entryIn, withPart, withParts, noEntries, entriesOf, hasEntry}
+use Rattle.rules.specs.Substructure.{partsFrom, namedIn, inTurn}
+use Rattle.rules.specs.AccessList.{noEntry, parts, entryTable, contentTable, listTable, verdictOf, entryIn, withPart, withParts, noEntries, entriesOf, hasEntry}
 use Rattle.rules.specs.Role.{namesHost, roleTable, roleOf, permitted}
 use Rattle.rules.specs.Message.{kindOf, namesProcessor, subjectOf, isAbout}
 use Rattle.rules.specs.Outcome.{senderWrong, wordsMissing, waitFailed, admission, byWords, outcomeTable, outcomeOf, carriedOut}
@@ -20,7 +21,7 @@ use Rattle.rules.specs.Call.{list, verdictTo, taken, afterOffer, afterMessage, 
 use Rattle.rules.specs.Sequence.{permittedFor, run}
 use Rattle.rules.specs.Cluster.{clusterList, request, setControl}
 use Rattle.rules.proofs.Tests.{clash}
-use Rattle.noninterference.specs.Statement.{clustersWhole, Ready, insider, aboutChosen, picked, picks, Noninterference}
+use Rattle.noninterference.specs.Statement.{clustersWhole, Ready, insider, aboutChosen, picked, picks, Noninterference, listOf, loads}
 use Rattle.noninterference.proofs.Choices.{whole-choices, half-choices}
 use Rattle.noninterference.proofs.Theorem.{freshly-loaded}
 
@@ -30,13 +31,13 @@ abbrev start : State
 start = run (fresh ours) (offer (list clusterList) ∷ [])
 
 start-board : start .setup .board ≡ ours
-unfolding tableOf ours ourDescription listsProcessor markIn rowIn classIn sharedCluster sharedIn homeIn boardOf firstOf anyOf boardHost activeHost placeOf rowOf onBoard partsFrom namedIn entryTable entriesTable listTable verdictOf accepted listed fresh verdictTo taken afterOffer next run
+unfolding tableOf ours ourDescription listsProcessor markIn rowIn classIn sharedCluster sharedIn homeIn boardOf firstOf anyOf boardHost activeHost placeOf rowOf onBoard partsFrom namedIn entryTable inTurn contentTable listTable verdictOf accepted listed fresh verdictTo taken afterOffer next run
 start-board = refl
 
 -- demand 3 holds for each choice from it that holds the cluster whole or not at all
 of-choice : (chosen : List ℕ) → allOf (namedIn (parts clusterList)) chosen ≡ true → clustersWhole ours chosen ≡ true → Noninterference start chosen
-unfolding tableOf ours ourDescription listsProcessor markIn rowIn classIn sharedCluster sharedIn homeIn boardOf firstOf anyOf allOf boardHost activeHost placeOf rowOf onBoard partsFrom namedIn entryTable entriesTable listTable verdictOf accepted
-of-choice chosen named whole = freshly-loaded clusterList chosen refl named whole
+unfolding loads listOf tableOf ours ourDescription listsProcessor markIn rowIn classIn sharedCluster sharedIn homeIn boardOf firstOf anyOf allOf boardHost activeHost placeOf rowOf onBoard partsFrom namedIn entryTable inTurn contentTable listTable verdictOf accepted
+of-choice chosen named whole = freshly-loaded (list clusterList) chosen refl named whole
 
 pub one-alone : Noninterference start (1 ∷ [])
 unfolding anyOf allOf partsFrom namedIn
@@ -67,12 +68,12 @@ disturbed = request 10 32 ∷ request 12 33 ∷ setControl 12 33 0x1 0 ∷ []
 
 -- the two agree in what 32's insiders send about 32
 same-picks : picks (start .setup) (32 ∷ []) quiet ≡ picks (start .setup) (32 ∷ []) disturbed
-unfolding tableOf ours ourDescription listsProcessor markIn rowIn classIn sharedCluster sharedIn homeIn boardOf firstOf anyOf boardHost activeHost placeOf rowOf onBoard noEntry partsFrom namedIn entryTable entriesTable listTable verdictOf accepted entryIn withPart withParts noEntries entriesOf hasEntry namesHost roleTable roleOf permitted kindOf namesProcessor subjectOf isAbout listed fresh entryOf verdictTo taken afterOffer permittedFor insider aboutChosen picked picks next run
+unfolding tableOf ours ourDescription listsProcessor markIn rowIn classIn sharedCluster sharedIn homeIn boardOf firstOf anyOf boardHost activeHost placeOf rowOf onBoard noEntry partsFrom namedIn entryTable inTurn contentTable listTable verdictOf accepted entryIn withPart withParts noEntries entriesOf hasEntry namesHost roleTable roleOf permitted kindOf namesProcessor subjectOf isAbout listed fresh entryOf verdictTo taken afterOffer permittedFor insider aboutChosen picked picks next run
 same-picks = refl
 
 -- and leave 32 different control words
 pub different-words : (recordOf (run start quiet) 32 .control ≡ 0) × (recordOf (run start disturbed) 32 .control ≡ 1)
-unfolding tableOf ours ourDescription listsProcessor markIn rowIn classIn sharedCluster sharedIn homeIn boardOf firstOf anyOf boardHost activeHost placeOf rowOf onBoard classAt classOf homeAt maskOf noEntry partsFrom namedIn entryTable entriesTable listTable verdictOf accepted entryIn withPart withParts noEntries entriesOf hasEntry namesHost roleTable roleOf permitted kindOf subjectOf senderWrong wordsMissing waitFailed admission byWords outcomeTable outcomeOf carriedOut recordAfter listed freeOwn fresh entryOf recordIn recordOf viewOf putIn stored verdictTo taken afterOffer afterMessage next run
+unfolding tableOf ours ourDescription listsProcessor markIn rowIn classIn sharedCluster sharedIn homeIn boardOf firstOf anyOf boardHost activeHost placeOf rowOf onBoard classAt classOf homeAt maskOf noEntry partsFrom namedIn entryTable inTurn contentTable listTable verdictOf accepted entryIn withPart withParts noEntries entriesOf hasEntry namesHost roleTable roleOf permitted kindOf subjectOf senderWrong wordsMissing waitFailed admission byWords outcomeTable outcomeOf carriedOut recordAfter listed freeOwn fresh entryOf recordIn recordOf viewOf putIn stored verdictTo taken afterOffer afterMessage next run
 different-words = (refl, refl)
 
 -- so demand 3 would be false of 32 alone

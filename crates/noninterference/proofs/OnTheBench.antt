@@ -7,14 +7,15 @@ use Rattle.rules.specs.Table.{firstOf, anyOf, allOf, placeOf, allFrom, tableOf}
 use Rattle.rules.specs.Board.{boardHost, activeHost, rowOf, onBoard, homeAt, homeOf, shareControl}
 use Rattle.rules.specs.Description.{ourDescription, listsProcessor, markIn, rowIn, classIn, sharedCluster, sharedIn, homeIn, boardOf, ours}
 use Rattle.rules.specs.Verdict.{accepted}
-use Rattle.rules.specs.AccessList.{noEntry, partsFrom, namedIn, entryTable, entriesTable, listTable, verdictOf, entryIn, withPart, withParts, noEntries, entriesOf, hasEntry}
+use Rattle.rules.specs.Substructure.{partsFrom, namedIn, inTurn}
+use Rattle.rules.specs.AccessList.{noEntry, entryTable, contentTable, listTable, verdictOf, entryIn, withPart, withParts, noEntries, entriesOf, hasEntry}
 use Rattle.rules.specs.Role.{namesHost, roleTable, roleOf, permitted}
 use Rattle.rules.specs.Message.{kindOf, namesProcessor, subjectOf, isAbout}
 use Rattle.rules.specs.State.{listed, State, fresh, entryOf}
 use Rattle.rules.specs.Call.{list, verdictTo, taken, afterOffer, Call, offer, next}
 use Rattle.rules.specs.Sequence.{permittedFor, run}
 use Rattle.rules.specs.Bench.{benchList, request, handover, setConfig}
-use Rattle.noninterference.specs.Statement.{clustersWhole, insider, aboutChosen, picked, picks, answers, Noninterference}
+use Rattle.noninterference.specs.Statement.{clustersWhole, insider, aboutChosen, picked, picks, answers, Noninterference, listOf, loads}
 use Rattle.noninterference.proofs.Theorem.{freshly-loaded}
 
 abbrev bothR5 : List ℕ
@@ -25,8 +26,8 @@ abbrev start : State
 start = run (fresh ours) (offer (list benchList) ∷ [])
 
 pub on-the-bench : Noninterference start bothR5
-unfolding allFrom homeAt homeOf tableOf ours ourDescription listsProcessor markIn rowIn classIn sharedCluster sharedIn homeIn boardOf firstOf anyOf allOf boardHost activeHost placeOf rowOf onBoard shareControl partsFrom namedIn entryTable entriesTable listTable verdictOf accepted clustersWhole
-on-the-bench = freshly-loaded benchList bothR5 refl refl refl
+unfolding loads listOf allFrom homeAt homeOf tableOf ours ourDescription listsProcessor markIn rowIn classIn sharedCluster sharedIn homeIn boardOf firstOf anyOf allOf boardHost activeHost placeOf rowOf onBoard shareControl partsFrom namedIn entryTable inTurn contentTable listTable verdictOf accepted clustersWhole
+on-the-bench = freshly-loaded (list benchList) bothR5 refl refl refl
 
 -- host 3 takes processor 1, sets its vector and hands it over to 5
 abbrev quiet : List Call
@@ -38,7 +39,7 @@ disturbed =
     request 12 ∷ request 3 ∷ setConfig 12 0x41C00100 0 ∷ offer (list benchList) ∷ setConfig 3 0x41C00080 0 ∷ handover 12 12 ∷ handover 3 5 ∷ request 12 ∷ []
 
 same-picks : picks (start .setup) bothR5 quiet ≡ picks (start .setup) bothR5 disturbed
-unfolding tableOf ours ourDescription listsProcessor markIn rowIn classIn sharedCluster sharedIn homeIn boardOf firstOf anyOf boardHost activeHost placeOf rowOf onBoard noEntry partsFrom namedIn entryTable entriesTable listTable verdictOf accepted entryIn withPart withParts noEntries entriesOf hasEntry namesHost roleTable roleOf permitted kindOf namesProcessor subjectOf isAbout listed fresh entryOf verdictTo taken afterOffer permittedFor insider aboutChosen picked picks next run
+unfolding tableOf ours ourDescription listsProcessor markIn rowIn classIn sharedCluster sharedIn homeIn boardOf firstOf anyOf boardHost activeHost placeOf rowOf onBoard noEntry partsFrom namedIn entryTable inTurn contentTable listTable verdictOf accepted entryIn withPart withParts noEntries entriesOf hasEntry namesHost roleTable roleOf permitted kindOf namesProcessor subjectOf isAbout listed fresh entryOf verdictTo taken afterOffer permittedFor insider aboutChosen picked picks next run
 same-picks = refl
 
 -- so host 12 changes none of the answers

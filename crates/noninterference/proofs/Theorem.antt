@@ -1,6 +1,6 @@
 -- Demand 3: noninterference, from every listed state that calls left, on document 01's board or on any that an accepted description gave, for any
--- processors that the accepted list names; the state that an accepted list leaves is such a start, and it depends on the board in force and the
--- list alone. Assumes nothing.
+-- processors that the accepted list names, alone or in a block; the state that an accepted list or block leaves is such a start, and it depends on the
+-- board in force and the list or block alone. Assumes nothing.
 use Prim.Native.Nat.{ℕ}
 use mathlib.Core.Path.{_≡_, refl, sym, subst, subst⁻¹, _∙_, ap}
 use mathlib.Core.Bool.{true, false, cond, not, _&&_, _||_}
@@ -13,17 +13,19 @@ use Rattle.rules.specs.Table.{anyOf, allOf, allFrom}
 use Rattle.rules.specs.Board.{Board, rowOf, onBoard, shareControl}
 use Rattle.rules.specs.Description.{Processor, Description, ourDescription, listsProcessor, shareWord, boardVerdict, descriptionIn, boardOf, described, ours, Good}
 use Rattle.rules.specs.Verdict.{accepted}
-use Rattle.rules.specs.AccessList.{Entry, noEntry, parts, namedIn, hasEntry, verdictOf}
+use Rattle.rules.specs.Substructure.{namedIn}
+use Rattle.rules.specs.AccessList.{Entry, noEntry, parts, hasEntry, verdictOf}
 use Rattle.rules.specs.Message.{Query}
 use Rattle.rules.specs.State.{listed, listIn, Setup, State, fresh, entryOf, recordOf, stored}
-use Rattle.rules.specs.Call.{board, list, verdictTo, taken, afterOffer, afterMessage, queryOf, Call, offer, message, next}
+use Rattle.rules.specs.Call.{Offer, board, list, block, verdictTo, taken, afterOffer, afterMessage, queryOf, Call, offer, message, next}
 use Rattle.rules.specs.Sequence.{run, freeOrPermitted, Sound}
 use Rattle.rules.proofs.Tests.{decide, clash, and-left, and-right, or-cases, or-left, or-right, cond-true, cond-false, allOf-member, allOf-all, allFrom-all}
 use Rattle.rules.proofs.Rows.{placed, listed-member}
 use Rattle.rules.proofs.Homes.{board-good, share-clusters}
 use Rattle.rules.proofs.Entries.{named-there, named-on}
+use Rattle.rules.proofs.Blocks.{good-block}
 use Rattle.rules.proofs.Sound.{offer-kept, message-unlisted, sound-fresh, sound-next, sound-run}
-use Rattle.noninterference.specs.Statement.{sharerChosen, clustersWhole, clustersListed, Ready, Noninterference, FromEveryStart, FreshlyLoaded, ForEveryDescription, boardLeft, NoTrace}
+use Rattle.noninterference.specs.Statement.{sharerChosen, clustersWhole, clustersListed, Ready, Noninterference, FromEveryStart, listOf, loads, FreshlyLoaded, ForEveryDescription, boardLeft, NoTrace}
 use Rattle.noninterference.proofs.OneCall.{Reached, outsider-refused-here}
 use Rattle.noninterference.proofs.Sequences.{Erased, erase, run-reached, answerPicks, runPicks}
 
@@ -79,30 +81,46 @@ left-sound calls = sound-run calls (fresh ours) (sound-fresh ours (board-good ou
 pub noninterference : FromEveryStart
 noninterference before chosen ready = from-sound (run (fresh ours) before) (left-sound before) chosen ready
 
--- ---- a list that is in force
+-- ---- a list that is in force, alone or in a block
 
-module _ (b : Board) (bytes chosen : List ℕ) (ok : accepted (verdictOf b false bytes) ≡ true) where
-  -- the accepted list is in force
-  loaded-is : afterOffer (fresh b) (list bytes) ≡ taken (fresh b) (list bytes)
-  unfolding afterOffer verdictTo fresh listed
-  loaded-is = cond-true _ _ ok
+-- an offer that loads is accepted on a fresh board, and leaves its list in force
+loads-accepted : (b : Board) (o : Offer) → loads b o ≡ true → accepted (verdictTo (fresh b) o) ≡ true
+unfolding loads verdictTo fresh listed
+loads-accepted b (board bytes) ok = clash {x = false} ok refl
+loads-accepted b (list bytes) ok = ok
+loads-accepted b (block major minor bytes) ok = ok
 
-  loaded-ready : allOf (namedIn (parts bytes)) chosen ≡ true → clustersWhole b chosen ≡ true → Ready (afterOffer (fresh b) (list bytes)) chosen
-  unfolding taken fresh listed listIn
-  loaded-ready named whole =
-      subst⁻¹ (λ (s : State). Ready s chosen) loaded-is (record { something = refl; named = named; whole = whole })
+loads-ready : (b : Board) (o : Offer) (chosen : List ℕ) → loads b o ≡ true → allOf (namedIn (parts (listOf o))) chosen ≡ true → clustersWhole b chosen ≡ true
+    → Ready (taken (fresh b) o) chosen
+unfolding loads listOf taken fresh listed listIn
+loads-ready b (board bytes) chosen ok named whole = clash {x = false} ok refl
+loads-ready b (list bytes) chosen ok named whole = record { something = refl; named = named; whole = whole }
+loads-ready b (block major minor bytes) chosen ok named whole = record { something = refl; named = named; whole = whole }
+
+-- its list is accepted alone
+pub loads-list : (b : Board) (o : Offer) → loads b o ≡ true → accepted (verdictOf b false (listOf o)) ≡ true
+unfolding loads listOf
+loads-list b (board bytes) ok = clash {x = false} ok refl
+loads-list b (list bytes) ok = ok
+loads-list b (block major minor bytes) ok = good-block b false major minor bytes ok .list-good
+
+module _ (b : Board) (o : Offer) (chosen : List ℕ) (ok : loads b o ≡ true) where
+  loaded-is : afterOffer (fresh b) o ≡ taken (fresh b) o
+  unfolding afterOffer
+  loaded-is = cond-true _ _ (loads-accepted b o ok)
+
+  loaded-ready : allOf (namedIn (parts (listOf o))) chosen ≡ true → clustersWhole b chosen ≡ true → Ready (afterOffer (fresh b) o) chosen
+  loaded-ready named whole = subst⁻¹ (λ (s : State). Ready s chosen) loaded-is (loads-ready b o chosen ok named whole)
 
   -- on any good board
-  pub loaded-on : Good b → allOf (namedIn (parts bytes)) chosen ≡ true → clustersWhole b chosen ≡ true
-      → Noninterference (afterOffer (fresh b) (list bytes)) chosen
+  pub loaded-on : Good b → allOf (namedIn (parts (listOf o))) chosen ≡ true → clustersWhole b chosen ≡ true → Noninterference (afterOffer (fresh b) o) chosen
   unfolding next
   loaded-on good named whole =
-      from-sound (afterOffer (fresh b) (list bytes)) (sound-next (fresh b) (sound-fresh b good) (offer (list bytes))) chosen (loaded-ready named whole)
+      from-sound (afterOffer (fresh b) o) (sound-next (fresh b) (sound-fresh b good) (offer o)) chosen (loaded-ready named whole)
 
 pub freshly-loaded : FreshlyLoaded
 unfolding run next
-freshly-loaded bytes chosen ok named whole =
-    noninterference (offer (list bytes) ∷ []) chosen (loaded-ready ours bytes chosen ok named whole)
+freshly-loaded o chosen ok named whole = noninterference (offer o ∷ []) chosen (loaded-ready ours o chosen ok named whole)
 
 -- ---- a board that is described
 
@@ -150,11 +168,12 @@ named-all b bytes chosen ok named =
 
 pub for-every-description : ForEveryDescription
 unfolding run next described
-for-every-description description bytes chosen taken ok named whole =
+for-every-description description o chosen taken ok named whole =
     let d = descriptionIn description in
-    noninterference (offer (board description) ∷ offer (list bytes) ∷ []) chosen
-    (subst⁻¹ (λ (s : State). Ready (afterOffer s (list bytes)) chosen) (described-is description taken)
-    (loaded-ready (boardOf d) bytes chosen ok named (listed-clusters d chosen (named-all (boardOf d) bytes chosen ok named) whole)))
+    let on = named-all (boardOf d) (listOf o) chosen (loads-list (boardOf d) o ok) named in
+    noninterference (offer (board description) ∷ offer o ∷ []) chosen
+    (subst⁻¹ (λ (s : State). Ready (afterOffer s o) chosen) (described-is description taken)
+    (loaded-ready (boardOf d) o chosen ok named (listed-clusters d chosen on whole)))
 
 -- ---- before the first accepted list
 
@@ -165,19 +184,19 @@ listed-stays [] s is = is
 listed-stays (offer o ∷ cs) s is = listed-stays cs (afterOffer s o) (subst⁻¹ (λ (t : State). listed (t .setup .source) ≡ true) (offer-kept s o is) is)
 listed-stays (message lent ∷ cs) s is = listed-stays cs (afterMessage s (queryOf lent)) is
 
--- a list that is refused
-list-refused : (b : Board) (bytes : List ℕ) (cs : List Call) → listed (run (afterOffer (fresh b) (list bytes)) cs .setup .source) ≡ false
-    → afterOffer (fresh b) (list bytes) ≡ fresh b
-unfolding afterOffer taken listed
-list-refused b bytes cs none =
+-- an offer that would leave something accepted, where nothing is, was refused
+offer-refused-here : (b : Board) (o : Offer) (cs : List Call) → listed (taken (fresh b) o .setup .source) ≡ true
+    → listed (run (afterOffer (fresh b) o) cs .setup .source) ≡ false → afterOffer (fresh b) o ≡ fresh b
+unfolding afterOffer
+offer-refused-here b o cs lists none =
     ⊎-elim
     (λ ok.
     clash
-    (listed-stays cs (afterOffer (fresh b) (list bytes))
-    (ap (λ (s : State). listed (s .setup .source)) (cond-true (taken (fresh b) (list bytes)) (fresh b) ok)))
+    (listed-stays cs (afterOffer (fresh b) o)
+    (ap (λ (s : State). listed (s .setup .source)) (cond-true (taken (fresh b) o) (fresh b) ok) ∙ lists))
     none)
     (λ no. cond-false _ _ no)
-    (decide (accepted (verdictTo (fresh b) (list bytes))))
+    (decide (accepted (verdictTo (fresh b) o)))
 
 -- a description that is taken or not
 board-after : (b : Board) (bytes : List ℕ)
@@ -190,7 +209,7 @@ unfolding fresh listed
 fresh-unlisted b = refl
 
 leaves-board : (cs : List Call) (b : Board) → listed (run (fresh b) cs .setup .source) ≡ false → run (fresh b) cs ≡ fresh (boardLeft b cs)
-unfolding run next boardLeft
+unfolding run next boardLeft taken listed
 leaves-board [] b none = refl
 leaves-board (offer (board bytes) ∷ cs) b none =
     let after = board-after b bytes in
@@ -198,7 +217,10 @@ leaves-board (offer (board bytes) ∷ cs) b none =
     ∙ leaves-board cs (cond (accepted (boardVerdict false bytes)) (described bytes) b)
     (subst (λ (s : State). listed (run s cs .setup .source) ≡ false) after none)
 leaves-board (offer (list bytes) ∷ cs) b none =
-    let after = list-refused b bytes cs none in
+    let after = offer-refused-here b (list bytes) cs refl none in
+    ap (λ (s : State). run s cs) after ∙ leaves-board cs b (subst (λ (s : State). listed (run s cs .setup .source) ≡ false) after none)
+leaves-board (offer (block major minor bytes) ∷ cs) b none =
+    let after = offer-refused-here b (block major minor bytes) cs refl none in
     ap (λ (s : State). run s cs) after ∙ leaves-board cs b (subst (λ (s : State). listed (run s cs .setup .source) ≡ false) after none)
 leaves-board (message lent ∷ cs) b none =
     let after = message-unlisted (fresh b) (queryOf lent) (fresh-unlisted b) in

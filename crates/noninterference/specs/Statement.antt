@@ -9,11 +9,13 @@ use Rattle.rules.specs.Table.{anyOf, allOf, allFrom}
 use Rattle.rules.specs.Verdict.{accepted}
 use Rattle.rules.specs.Board.{Board, onBoard, shareControl}
 use Rattle.rules.specs.Description.{Processor, Description, shareWord, boardVerdict, descriptionIn, described, ours}
-use Rattle.rules.specs.AccessList.{parts, namedIn, hasEntry, verdictOf}
+use Rattle.rules.specs.Substructure.{namedIn}
+use Rattle.rules.specs.AccessList.{parts, hasEntry, verdictOf}
+use Rattle.rules.specs.Block.{listPart, blockVerdict}
 use Rattle.rules.specs.Message.{Query, isAbout}
 use Rattle.rules.specs.Outcome.{carriedOut}
 use Rattle.rules.specs.State.{listed, listIn, Setup, State, fresh, entryOf, recordOf}
-use Rattle.rules.specs.Call.{board, list, Answer, answerTo, queryOf, Call, offer, message, next}
+use Rattle.rules.specs.Call.{Offer, board, list, block, Answer, answerTo, queryOf, Call, offer, message, next}
 use Rattle.rules.specs.Sequence.{run, permittedFor, freeOrPermitted}
 
 -- number x is no processor of the board that shares its control word with p, or it is chosen
@@ -32,8 +34,8 @@ clustersListed d chosen =
     (λ (p : ℕ). allOf (λ (x : Processor). not (shareWord d p (x .number)) || anyOf (eqb (x .number)) chosen) (d .processors))
     chosen
 
--- what the start must be: a list was accepted, every chosen processor has an entry, that is, a used entry of that list's bytes names it, and
--- clusters are chosen whole
+-- what the start must be: a list was accepted, alone or in a block, every chosen processor has an entry, that is, a used entry of that list's bytes
+-- names it, and clusters are chosen whole
 pub record Ready (s : State) (chosen : List ℕ) : Type 0 where
   pub something : listed (s .setup .source) ≡ true
   pub named : allOf (namedIn (parts (listIn (s .setup .source)))) chosen ≡ true
@@ -67,7 +69,7 @@ answers setup chosen s (message lent ∷ cs) =
     (answerTo s (queryOf lent) ∷ answers setup chosen (next s (message lent)) cs)
     (answers setup chosen (next s (message lent)) cs)
 
--- demand 3, for a start and the chosen processors, over all sequences of calls from that start, lists and boards that are offered among them
+-- demand 3, for a start and the chosen processors, over all sequences of calls from that start, lists, blocks and boards that are offered among them
 pub record Noninterference (s : State) (chosen : List ℕ) : Type 0 where
   -- each chosen processor has an entry, so that a host permitted for it is one that its entry names
   pub has-entry : (p : ℕ) → anyOf (eqb p) chosen ≡ true → hasEntry (entryOf (s .setup) p) ≡ true
@@ -98,30 +100,43 @@ abbrev pub FromEveryStart : Type 0
 FromEveryStart =
     (before : List Call) (chosen : List ℕ) → Ready (run (fresh ours) before) chosen → Noninterference (run (fresh ours) before) chosen
 
--- the state that an accepted list leaves on document 01's board is one
+-- the list that an offer puts in force: the lone list, or that of a block (document 02, L1)
+unfoldable pub listOf : Offer → List ℕ
+listOf (board bytes) = []
+listOf (list bytes) = bytes
+listOf (block major minor bytes) = listPart bytes
+
+-- a list or a block that a board accepts
+unfoldable pub loads : Board → Offer → Bool
+loads b (board bytes) = false
+loads b (list bytes) = accepted (verdictOf b false bytes)
+loads b (block major minor bytes) = accepted (blockVerdict b false major minor bytes)
+
+-- the state that an accepted list or block leaves on document 01's board is one
 abbrev pub FreshlyLoaded : Type 0
 FreshlyLoaded =
-    (bytes chosen : List ℕ)
-    → accepted (verdictOf ours false bytes) ≡ true
-    → allOf (namedIn (parts bytes)) chosen ≡ true
+    (o : Offer) (chosen : List ℕ)
+    → loads ours o ≡ true
+    → allOf (namedIn (parts (listOf o))) chosen ≡ true
     → clustersWhole ours chosen ≡ true
-    → Noninterference (run (fresh ours) (offer (list bytes) ∷ [])) chosen
+    → Noninterference (run (fresh ours) (offer o ∷ [])) chosen
 
--- and so is, for every accepted description, the one that a list leaves which its board accepts
+-- and so is, for every accepted description, the one that a list or a block leaves which its board accepts
 abbrev pub ForEveryDescription : Type 0
 ForEveryDescription =
-    (description bytes chosen : List ℕ)
+    (description : List ℕ) (o : Offer) (chosen : List ℕ)
     → accepted (boardVerdict false description) ≡ true
-    → accepted (verdictOf (described description) false bytes) ≡ true
-    → allOf (namedIn (parts bytes)) chosen ≡ true
+    → loads (described description) o ≡ true
+    → allOf (namedIn (parts (listOf o))) chosen ≡ true
     → clustersListed (descriptionIn description) chosen ≡ true
-    → Noninterference (run (fresh ours) (offer (board description) ∷ offer (list bytes) ∷ [])) chosen
+    → Noninterference (run (fresh ours) (offer (board description) ∷ offer o ∷ [])) chosen
 
--- the board that calls before the first accepted list leave in force: that of the last accepted description
+-- the board that calls before the first accepted list or block leave in force: that of the last accepted description
 unfoldable pub boardLeft : Board → List Call → Board
 boardLeft b [] = b
 boardLeft b (offer (board bytes) ∷ cs) = boardLeft (cond (accepted (boardVerdict false bytes)) (described bytes) b) cs
 boardLeft b (offer (list bytes) ∷ cs) = boardLeft b cs
+boardLeft b (offer (block major minor bytes) ∷ cs) = boardLeft b cs
 boardLeft b (message lent ∷ cs) = boardLeft b cs
 
 -- they leave nothing else, so that start depends on that board and the list alone

@@ -29,7 +29,7 @@ pub fn outcome_number(outcome: Outcome) -> u32
     }
 }
 
-// The number of a verdict: 0 for accepted, k for Ak, 200 + k for Dk.
+// The number of a verdict: 0 for accepted, k for Ak, 100 + k for Bk, 200 + k for Dk.
 pub fn verdict_number(verdict: Verdict) -> u32
     ensures { λ r. ⌜ r ≡ verdictNumber verdict ⌝ }
 {
@@ -43,6 +43,16 @@ pub fn verdict_number(verdict: Verdict) -> u32
         Verdict::A6 => 6,
         Verdict::A7 => 7,
         Verdict::A8 => 8,
+        Verdict::B1 => 101,
+        Verdict::B2 => 102,
+        Verdict::B3 => 103,
+        Verdict::B4 => 104,
+        Verdict::B5 => 105,
+        Verdict::B6 => 106,
+        Verdict::B7 => 107,
+        Verdict::B8 => 108,
+        Verdict::B9 => 109,
+        Verdict::B10 => 110,
         Verdict::D1 => 201,
         Verdict::D2 => 202,
         Verdict::D3 => 203,

@@ -1,31 +1,106 @@
 -- A field carried out by its tag. Assumes nothing.
 use Prim.Native.Nat.{ℕ}
-use mathlib.Core.Path.{_≡_, refl}
+use mathlib.Core.Path.{_≡_, refl, sym, ap, _∙_}
+use mathlib.Core.Bool.{Bool, true, false, _||_}
 use mathlib.Core.List.{List}
+use mathlib.Core.Logic.{⊎-elim}
 use native.Mathlib.Omega.{arith}
 use lib.ListN.{length, take}
+use lib.Dec.{eqb}
+use borrow.Author.Tests.{eqb-true, eqb-false, ne-eqb}
 use Rattle.rules.specs.Answer.{bufferAfter}
+use Rattle.rules.proofs.Tests.{decide, clash}
 use Rattle.board.specs.Memory.{boardIn}
 use Rattle.words.specs.Words.{wordsOf}
-use Rattle.recording.specs.Played.{PlayedBoard, PlayedList, PlayedMessage}
-use Rattle.playing.specs.ByTag.{PlayedField}
+use Rattle.recording.specs.Played.{PlayedBlock, PlayedBoard, PlayedList, PlayedMessage}
+use Rattle.playing.specs.ByTag.{OfferField, PlayedField}
 
-module _ (tag count : ℕ) (body board access records words line : List ℕ) where
-  pub list-field : (access′ line′ : List ℕ) (n : ℕ) → tag ≡ 1 → PlayedList (boardIn board) access body line access′ line′ n
-      → PlayedField tag count body board access records words line board access′ records words line′ n count
-  list-field access′ line′ n is played =
+-- ---- an offer by its tag
+
+module _ (tag : ℕ) (body board access line : List ℕ) where
+  pub list-offer : (access′ line′ : List ℕ) (n : ℕ) → tag ≡ 1 → PlayedList (boardIn board) access body line access′ line′ n
+      → OfferField tag body board access line board access′ line′ n
+  list-offer access′ line′ n is played =
       record {
         list = λ _. played;
-        status = λ e. absurd (omega arith);
-        description = λ e. absurd (omega arith);
-        message = λ f g h. absurd (f is);
-        board-kept = λ _. refl;
-        access-kept = λ f. absurd (f is);
+        block = λ e. absurd (omega arith);
+        description = λ f g. absurd (f is);
+        list-keeps = λ _. refl;
+        block-keeps = λ _. refl;
+        access-kept = λ f g. absurd (f is);
+        short = played .prints .short;
+      }
+
+  pub block-offer : (access′ line′ : List ℕ) (n : ℕ) → tag ≡ 4 → PlayedBlock (boardIn board) access body line access′ line′ n
+      → OfferField tag body board access line board access′ line′ n
+  block-offer access′ line′ n is played =
+      record {
+        list = λ e. absurd (omega arith);
+        block = λ _. played;
+        description = λ f g. absurd (g is);
+        list-keeps = λ _. refl;
+        block-keeps = λ _. refl;
+        access-kept = λ f g. absurd (g is);
+        short = played .prints .short;
+      }
+
+  pub board-offer : (board′ line′ : List ℕ) (n : ℕ) → (tag ≡ 1 → ⊥) → (tag ≡ 4 → ⊥) → PlayedBoard board access body line board′ line′ n
+      → OfferField tag body board access line board′ access line′ n
+  board-offer board′ line′ n one four played =
+      record {
+        list = λ e. absurd (one e);
+        block = λ e. absurd (four e);
+        description = λ _ _. played;
+        list-keeps = λ e. absurd (one e);
+        block-keeps = λ e. absurd (four e);
+        access-kept = λ _ _. refl;
+        short = played .prints .short;
+      }
+
+-- ---- a field by its tag
+
+-- the tags of offers
+abbrev pub offered : ℕ → Bool
+offered tag = eqb tag 1 || eqb tag 4 || eqb tag 6
+
+-- none of them is that of status words
+offered-words : (tag : ℕ) → offered tag ≡ true → tag ≡ 2 → ⊥
+offered-words tag is two = clash {A = ⊥} is (ap offered two)
+
+-- and what is none of the three is no offer's
+offered-one : (tag : ℕ) → offered tag ≡ true → (tag ≡ 1 → ⊥) → (tag ≡ 4 → ⊥) → tag ≡ 6
+offered-one tag is one four = eqb-true tag 6 (rw (ne-eqb tag 1 one, ne-eqb tag 4 four) at is)
+
+offered-not : (tag : ℕ) → offered tag ≡ false → (tag ≡ 1 → ⊥) × (tag ≡ 4 → ⊥) × (tag ≡ 6 → ⊥)
+offered-not tag none = (λ e. clash {A = ⊥} refl (sym (ap offered e) ∙ none), λ e. clash {A = ⊥} refl (sym (ap offered e) ∙ none), λ e. clash {A = ⊥} refl (sym (ap offered e) ∙ none))
+
+module _ (tag count : ℕ) (body board access records words line : List ℕ) where
+  pub offer-field : (board′ access′ line′ : List ℕ) (n : ℕ) → offered tag ≡ true → OfferField tag body board access line board′ access′ line′ n
+      → PlayedField tag count body board access records words line board′ access′ records words line′ n count
+  offer-field board′ access′ line′ n is played =
+      record {
+        list = played .list;
+        status = λ e. absurd (offered-words tag is e);
+        block = played .block;
+        description = λ e. played .description (λ one. omega arith) (λ four. omega arith);
+        message = λ one two four six. absurd (six (offered-one tag is one four));
+        board-kept = λ six. kept-board six;
+        access-kept = played .access-kept;
         words-kept = λ _. (refl, refl);
         list-keeps = λ _. refl;
         status-keeps = λ _. refl;
+        block-keeps = λ _. refl;
         description-keeps = λ _. refl;
       }
+    where
+      kept-board : (tag ≡ 6 → ⊥) → board′ ≡ board
+      kept-board six =
+          ⊎-elim (λ one. played .list-keeps (eqb-true tag 1 one))
+          (λ other.
+          ⊎-elim (λ four. played .block-keeps (eqb-true tag 4 four))
+          (λ neither. absurd (six (offered-one tag is (eqb-false tag 1 other) (eqb-false tag 4 neither))))
+          (decide (eqb tag 4)))
+          (decide (eqb tag 1))
 
   pub status-field : (words′ : List ℕ) (stand : ℕ) → tag ≡ 2
       → stand ≡ length (take 255 (wordsOf body)) → words′ ≡ bufferAfter (take 255 (wordsOf body)) words
@@ -34,45 +109,34 @@ module _ (tag count : ℕ) (body board access records words line : List ℕ) whe
       record {
         list = λ e. absurd (omega arith);
         status = λ _. record { count = size; memory = laid; silent = refl; kept = refl };
+        block = λ e. absurd (omega arith);
         description = λ e. absurd (omega arith);
-        message = λ f g h. absurd (g is);
+        message = λ one two four six. absurd (two is);
         board-kept = λ _. refl;
-        access-kept = λ _. refl;
+        access-kept = λ _ _. refl;
         words-kept = λ f. absurd (f is);
         list-keeps = λ _. refl;
         status-keeps = λ _. refl;
+        block-keeps = λ _. refl;
         description-keeps = λ _. refl;
       }
 
-  pub board-field : (board′ line′ : List ℕ) (n : ℕ) → tag ≡ 6 → PlayedBoard board access body line board′ line′ n
-      → PlayedField tag count body board access records words line board′ access records words line′ n count
-  board-field board′ line′ n is played =
-      record {
-        list = λ e. absurd (omega arith);
-        status = λ e. absurd (omega arith);
-        description = λ _. played;
-        message = λ f g h. absurd (h is);
-        board-kept = λ f. absurd (f is);
-        access-kept = λ _. refl;
-        words-kept = λ _. (refl, refl);
-        list-keeps = λ _. refl;
-        status-keeps = λ _. refl;
-        description-keeps = λ _. refl;
-      }
-
-  pub message-field : (records′ line′ : List ℕ) (n : ℕ) → (tag ≡ 1 → ⊥) → (tag ≡ 2 → ⊥) → (tag ≡ 6 → ⊥)
+  pub message-field : (records′ line′ : List ℕ) (n : ℕ) → (tag ≡ 2 → ⊥) → offered tag ≡ false
       → PlayedMessage (boardIn board) access records body (take count words) line records′ line′ n
       → PlayedField tag count body board access records words line board access records′ words line′ n count
-  message-field records′ line′ n one two six played =
+  message-field records′ line′ n two none played =
+      let no-offer = offered-not tag none in
       record {
-        list = λ e. absurd (one e);
+        list = λ e. absurd (no-offer .0 e);
         status = λ e. absurd (two e);
-        description = λ e. absurd (six e);
-        message = λ _ _ _. played;
+        block = λ e. absurd (no-offer .1 e);
+        description = λ e. absurd (no-offer .2 e);
+        message = λ _ _ _ _. played;
         board-kept = λ _. refl;
-        access-kept = λ _. refl;
+        access-kept = λ _ _. refl;
         words-kept = λ _. (refl, refl);
-        list-keeps = λ e. absurd (one e);
+        list-keeps = λ e. absurd (no-offer .0 e);
         status-keeps = λ e. absurd (two e);
-        description-keeps = λ e. absurd (six e);
+        block-keeps = λ e. absurd (no-offer .1 e);
+        description-keeps = λ e. absurd (no-offer .2 e);
       }

@@ -1,16 +1,36 @@
 // Session recordings: a whole field carried out by its tag. The rules are specs/ByTag.antt, over a board
-// description, a list and a message carried out in the crate below.
+// description, a list, a block and a message carried out in the crate below.
+use recording::block_line;
 use recording::board_line;
 use recording::list_line;
 use recording::message_line;
 use words::take_words;
 ghost use Prim.Native.Nat.{_≤_};
-ghost use Rattle.playing.specs.ByTag.{PlayedField};
+ghost use Rattle.playing.specs.ByTag.{OfferField, PlayedField};
 
 // What a field leaves: the length of the line it printed, and how many status words stand.
 pub struct Played {
     pub line: usize,
     pub words: u8,
+}
+
+// Carries out an offer by its tag, and writes its line: 1 a list, 4 a block, any other a board description.
+fn play_offer(
+    board: &mut [u8; 576],
+    access: &mut [u16; 129],
+    tag: u8,
+    body: &[u8],
+    line: &mut [u8],
+) -> usize
+    ensures { λ r. ⌜ OfferField tag (now (body .entry)) (now (board .entry)) (now (access .entry)) (now (line .entry)) (now (board .exit)) (now (access .exit)) (now (line .exit)) r ⌝ }
+{
+    if tag == 1 {
+        return list_line(board, access, body, line);
+    }
+    if tag == 4 {
+        return block_line(board, access, body, line);
+    }
+    board_line(board, access, body, line)
 }
 
 // Carries out a whole field, and writes the line that it prints, if any, over the start of `line`.
@@ -27,21 +47,15 @@ pub fn play_field(
     ensures { λ r. ⌜ r .line ≤ 96 ⌝ }
     ensures { λ r. ⌜ PlayedField tag count (now (body .entry)) (now (board .entry)) (now (access .entry)) (now (records .entry)) (now (words .entry)) (now (line .entry)) (now (board .exit)) (now (access .exit)) (now (records .exit)) (now (words .exit)) (now (line .exit)) (r .line) (r .words) ⌝ }
 {
-    if tag == 1 {
-        return Played {
-            line: list_line(board, access, body, line),
-            words: count,
-        };
-    }
     if tag == 2 {
         return Played {
             line: 0,
             words: take_words(body, words) as u8,
         };
     }
-    if tag == 6 {
+    if (tag == 1) | (tag == 4) | (tag == 6) {
         return Played {
-            line: board_line(board, access, body, line),
+            line: play_offer(board, access, tag, body, line),
             words: count,
         };
     }

@@ -7,13 +7,14 @@ use Rattle.rules.specs.Verdict.{verdictNumber}
 use Rattle.rules.specs.Board.{Board}
 use Rattle.rules.specs.Description.{boardVerdict}
 use Rattle.rules.specs.AccessList.{verdictOf}
+use Rattle.rules.specs.Block.{blockVerdict, reportedHost}
 use Rattle.rules.specs.Role.{roleNumber}
 use Rattle.rules.specs.Outcome.{outcomeNumber}
 use Rattle.rules.specs.Answer.{bufferAfter}
 use Rattle.rules.specs.Call.{Answer, answerTo, Lent, queryOf, message, next}
 use Rattle.boards.specs.Filled.{boardAfter}
 use Rattle.access.specs.Memory.{listedIn}
-use Rattle.loading.specs.Loaded.{accessAfter}
+use Rattle.loading.specs.Loaded.{accessAfter, accessAfterBlock}
 use Rattle.records.specs.Memory.{recordsIn, stateIn}
 
 pub record ExportedBoard (board access bytes board′ : List ℕ) (r : ℕ) : Type 0 where
@@ -23,6 +24,12 @@ pub record ExportedBoard (board access bytes board′ : List ℕ) (r : ℕ) : Ty
 pub record ExportedList (b : Board) (access bytes access′ : List ℕ) (r : ℕ) : Type 0 where
   pub verdict : r ≡ verdictNumber (verdictOf b (listedIn access) bytes)
   pub memory : access′ ≡ accessAfter b access bytes
+
+-- the loop word is the host of B8, and 0 with any other verdict
+pub record ExportedBlock (b : Board) (access : List ℕ) (major minor : ℕ) (bytes access′ loop′ : List ℕ) (r : ℕ) : Type 0 where
+  pub verdict : r ≡ verdictNumber (blockVerdict b (listedIn access) major minor bytes)
+  pub host : loop′ ≡ reportedHost (blockVerdict b (listedIn access) major minor bytes) bytes ∷ []
+  pub memory : access′ ≡ accessAfterBlock b access major minor bytes
 
 -- checks, microseconds, bytes written and the role's number, in this order
 abbrev pub reportWords : Report → List ℕ

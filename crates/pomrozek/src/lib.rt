@@ -1,12 +1,13 @@
-// The manager for firmware in C: four functions over memory that the caller lends. include/pomrozek.h
+// The manager for firmware in C: five functions over memory that the caller lends. include/pomrozek.h
 // declares them and says who owns what. Numbers are the papers': 0 for OK or accepted.
 ghost use mathlib.Core.Path.{_≡_};
 ghost use Prim.Native.Nat.{_≤_};
 ghost use Rattle.rules.specs.Description.{ours};
 ghost use Rattle.board.specs.Memory.{boardIn, boardBytes};
 ghost use Rattle.manager.specs.Calls.{lending};
-ghost use Rattle.pomrozek.specs.Exported.{ExportedBoard, ExportedList, ExportedMessage};
+ghost use Rattle.pomrozek.specs.Exported.{ExportedBlock, ExportedBoard, ExportedList, ExportedMessage};
 use manager::message;
+use manager::offer_block;
 use manager::offer_board;
 use manager::offer_list;
 use manager::start;
@@ -40,6 +41,26 @@ pub extern "C" fn pomrozek_list(board: &[u8; 576], access: &mut [u16; 129], list
     ensures { λ r. ⌜ ExportedList (boardIn (now (board .entry))) (now (access .entry)) (now (list .entry)) (now (access .exit)) r ⌝ }
 {
     verdict_number(offer_list(board, access, list))
+}
+
+// Offers a security board configuration that must have these ABI bytes, and gives the verdict's number: 0
+// accepted, k for Ak, 100 + k for Bk. The host of B8 goes to `loop`, and 0 with any other verdict.
+#[no_mangle]
+pub extern "C" fn pomrozek_block(
+    board: &[u8; 576],
+    access: &mut [u16; 129],
+    major: u8,
+    minor: u8,
+    block: &[u8],
+    found: &mut [u32; 1],
+) -> u32
+    ensures { λ r. ⌜ ExportedBlock (boardIn (now (board .entry))) (now (access .entry)) major minor (now (block .entry)) (now (access .exit)) (now (found .exit)) r ⌝ }
+{
+    let report = offer_block(board, access, major, minor, block);
+    let words = &mut found[..];
+    words[0] = report.host as u32;
+    let verdict = report.verdict;
+    verdict_number(verdict)
 }
 
 // The number of bytes written, which is at most 29, as the width of the report's words.

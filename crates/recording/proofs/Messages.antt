@@ -1,6 +1,6 @@
 -- A field carried out, from what the calls give: with room for a line, and without. Assumes nothing.
 use Prim.Native.Nat.{ℕ, _≤_, _<_}
-use mathlib.Core.Path.{_≡_, refl, ap, ap₂, _∙_, subst⁻¹}
+use mathlib.Core.Path.{_≡_, refl, ap, ap₂, _∙_, subst, subst⁻¹}
 use mathlib.Core.Bool.{_&&_}
 use mathlib.Core.List.{List}
 use native.Mathlib.Omega.{arith}
@@ -40,19 +40,22 @@ pub written-few : (b : Board) (access memory : List ℕ) (lent : Lent) (memory�
 written-few b access memory lent memory′ buffer told call =
     subst⁻¹ (λ (r : Report). r .written ≤ 29) (call .report) (written-short _ _)
 
-module _ (word : List ℕ) (verdict : Verdict) (held after line : List ℕ) where
-  pub offer-refused : length line < 96 → PlayedOffer word verdict held after line held line 0
+module _ (word : List ℕ) (verdict : Verdict) (host : ℕ) (held after line : List ℕ) where
+  pub offer-refused : length line < 96 → PlayedOffer word verdict host held after line held line 0
   offer-refused h =
       let gone = lt-leb 96 (length line) h in
       record { prints = nothing-printed line _ _ gone; memory = rw gone }
 
-  pub offer-played : (held′ line′ : List ℕ) (told : Verdict) (n : ℕ) → 96 ≤ length line
-      → told ≡ verdict → held′ ≡ after
-      → Printed line (printed (hasRoom line) (offerLine word told)) line′ n
-      → PlayedOffer word verdict held after line held′ line′ n
-  offer-played held′ line′ told n h same left shown =
+  pub offer-played : (held′ line′ : List ℕ) (told : Verdict) (named n : ℕ) → 96 ≤ length line
+      → told ≡ verdict → named ≡ host → held′ ≡ after
+      → Printed line (printed (hasRoom line) (offerLine word told named)) line′ n
+      → PlayedOffer word verdict host held after line held′ line′ n
+  offer-played held′ line′ told named n h same which left shown =
       let room = le-leb 96 (length line) h in
-      record { prints = rw same at shown; memory = rw room left }
+      record {
+        prints = subst (λ (text : List ℕ). Printed line (printed (hasRoom line) text) line′ n) (ap₂ (offerLine word) same which) shown;
+        memory = rw room left;
+      }
 
 module _ (b : Board) (access memory body words line : List ℕ) where
   pub message-refused : length line < 96 → PlayedMessage b access memory body words line memory line 0

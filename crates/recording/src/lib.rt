@@ -3,12 +3,14 @@
 ghost use mathlib.Core.Path.{_≡_};
 ghost use lib.ListN.{drop};
 ghost use Rattle.board.specs.Memory.{boardIn};
-ghost use Rattle.recording.specs.Played.{PlayedBoard, PlayedList, PlayedMessage};
+ghost use Rattle.recording.specs.Played.{PlayedBlock, PlayedBoard, PlayedList, PlayedMessage};
 use lines::print_message;
 use manager::message;
+use manager::offer_block;
 use manager::offer_board;
 use manager::offer_list;
 use texts::ROOM;
+use texts::print_block;
 use texts::print_board;
 use texts::print_list;
 use wire::byte_at;
@@ -32,6 +34,18 @@ pub fn list_line(board: &[u8; 576], access: &mut [u16; 129], body: &[u8], line: 
         return 0;
     }
     print_list(line, offer_list(board, access, body))
+}
+
+// Carries out a block field in the same way; its ABI bytes must be 0 and 1.
+pub fn block_line(board: &[u8; 576], access: &mut [u16; 129], body: &[u8], line: &mut [u8]) -> usize
+    ensures { λ r. ⌜ PlayedBlock (boardIn (now (board .entry))) (now (access .entry)) (now (body .entry)) (now (line .entry)) (now (access .exit)) (now (line .exit)) r ⌝ }
+{
+    if line.len() < ROOM {
+        return 0;
+    }
+    let report = offer_block(board, access, 0, 1, body);
+    let verdict = report.verdict;
+    print_block(line, verdict, report.host)
 }
 
 // All of a field's body but its first byte.

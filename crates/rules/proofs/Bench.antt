@@ -6,7 +6,8 @@ use Rattle.rules.specs.Table.{firstOf, anyOf, placeOf, tableOf}
 use Rattle.rules.specs.Verdict.{accepted}
 use Rattle.rules.specs.Board.{boardHost, activeHost, rowOf, onBoard, classAt, classOf, homeAt, maskOf}
 use Rattle.rules.specs.Description.{nothingListed, ourDescription, bodySize, fieldGood, noItem, itemIn, fieldSize, itemsFrom, itemsIn, listsHost, listsProcessor, repeats, otherClass, isFull, itemTable, withItem, itemsTable, descriptionTable, boardVerdict, withItems, descriptionIn, described, markIn, rowIn, classIn, sharedCluster, sharedIn, homeIn, boardOf, ours}
-use Rattle.rules.specs.AccessList.{noEntry, partsFrom, namedIn, entryTable, entriesTable, listTable, verdictOf, entryIn, withPart, withParts, noEntries, entriesOf, hasEntry}
+use Rattle.rules.specs.Substructure.{partsFrom, namedIn, inTurn}
+use Rattle.rules.specs.AccessList.{noEntry, entryTable, contentTable, listTable, verdictOf, entryIn, withPart, withParts, noEntries, entriesOf, hasEntry}
 use Rattle.rules.specs.Role.{namesHost, roleTable, roleOf, permitted}
 use Rattle.rules.specs.Message.{answerAsked, kindOf, waitIn, subjectOf}
 use Rattle.rules.specs.Wait.{runAfter, endsRun, firstEnd, endingCheck, ranOut, checksOf, microsOf}
@@ -31,7 +32,7 @@ abbrev pub Shows : List RoleCase → Type 0
 Shows cases = map (λ (c : RoleCase). shownIn (run (fresh ours) (c .earlier)) (c .call)) cases ≡ map (λ (c : RoleCase). (c .outcome, c .role)) cases
 
 all-hold : Hold starred × Hold clustered × Hold boarded × Shows roled × Hold counted
-unfolding counted roled shownIn boarded hostsFrom processorsFrom nothingListed bodySize fieldGood noItem itemIn fieldSize itemsFrom itemsIn listsHost repeats otherClass isFull itemTable withItem itemsTable descriptionTable boardVerdict withItems descriptionIn described firstOf anyOf placeOf tableOf ours ourDescription listsProcessor markIn rowIn classIn sharedCluster sharedIn homeIn boardOf boardHost activeHost rowOf onBoard classAt classOf homeAt maskOf noEntry partsFrom namedIn entryTable entriesTable listTable verdictOf accepted entryIn withPart withParts noEntries entriesOf hasEntry namesHost roleTable roleOf permitted answerAsked kindOf waitIn subjectOf runAfter endsRun firstEnd endingCheck ranOut checksOf microsOf senderWrong wordsMissing waitFailed admission byWords outcomeTable outcomeOf carriedOut silent recordAfter ackBytes bytesFor answerBytes answerOf waited tellsRole reportOf listed freeOwn fresh entryOf recordIn recordOf viewOf putIn stored verdictTo taken afterOffer afterMessage answerTo next run givenIn answerGiven starred clustered
+unfolding counted roled shownIn boarded hostsFrom processorsFrom nothingListed bodySize fieldGood noItem itemIn fieldSize itemsFrom itemsIn listsHost repeats otherClass isFull itemTable withItem itemsTable descriptionTable boardVerdict withItems descriptionIn described firstOf anyOf placeOf tableOf ours ourDescription listsProcessor markIn rowIn classIn sharedCluster sharedIn homeIn boardOf boardHost activeHost rowOf onBoard classAt classOf homeAt maskOf noEntry partsFrom namedIn entryTable inTurn contentTable listTable verdictOf accepted entryIn withPart withParts noEntries entriesOf hasEntry namesHost roleTable roleOf permitted answerAsked kindOf waitIn subjectOf runAfter endsRun firstEnd endingCheck ranOut checksOf microsOf senderWrong wordsMissing waitFailed admission byWords outcomeTable outcomeOf carriedOut silent recordAfter ackBytes bytesFor answerBytes answerOf waited tellsRole reportOf listed freeOwn fresh entryOf recordIn recordOf viewOf putIn stored verdictTo taken afterOffer afterMessage answerTo next run givenIn answerGiven starred clustered
 all-hold = (refl, refl, refl, refl, refl)
 
 pub starred-hold : Hold starred

@@ -13,7 +13,8 @@ use Rattle.rules.specs.declared.Verdict.the-variants.{Accepted}
 use Rattle.rules.specs.Table.{firstOf, anyOf}
 use Rattle.rules.specs.Board.{Board, activeHost, rows, rowOf, onBoard}
 use Rattle.rules.specs.Verdict.{accepted}
-use Rattle.rules.specs.AccessList.{Entry, noEntry, parts, processorIn, masterIn, used, namedIn, entryTable, entriesTable, listTable, verdictOf, entryIn, withPart, withParts, noEntries, entriesOf, hasEntry}
+use Rattle.rules.specs.Substructure.{used, namedIn, inTurn}
+use Rattle.rules.specs.AccessList.{Entry, noEntry, parts, processorIn, masterIn, entryTable, contentTable, listTable, verdictOf, entryIn, withPart, withParts, noEntries, entriesOf, hasEntry}
 use Rattle.rules.proofs.Tests.{decide, clash, and-left, and-right, or-cases, cleared, passed}
 use Rattle.rules.proofs.Rights.{active-not-zero}
 
@@ -33,8 +34,8 @@ clear-means true y f t = not-false y f
 clear-means false y f t = clash {x = false} t refl
 
 -- entries that the table accepts are good
-parts-good : (b : Board) (earlier rest : List (List ℕ)) → accepted (firstOf Accepted (entriesTable b earlier rest)) ≡ true → GoodParts b rest
-unfolding entriesTable entryTable accepted
+parts-good : (b : Board) (earlier rest : List (List ℕ)) → accepted (firstOf Accepted (inTurn (entryTable b) earlier rest)) ≡ true → GoodParts b rest
+unfolding inTurn entryTable accepted
 parts-good b earlier [] ok = none
 parts-good b earlier (part ∷ rest) ok =
     let a5 = passed accepted Accepted _ _ _ refl ok in
@@ -50,7 +51,7 @@ parts-good b earlier (part ∷ rest) ok =
 
 -- so are those of an accepted list
 list-good : (b : Board) (bytes : List ℕ) → accepted (verdictOf b false bytes) ≡ true → GoodParts b (parts bytes)
-unfolding verdictOf listTable accepted
+unfolding verdictOf contentTable listTable accepted
 list-good b bytes ok =
     let a1 = passed accepted Accepted _ _ _ refl ok in
     let a2 = passed accepted Accepted _ _ _ refl a1 in

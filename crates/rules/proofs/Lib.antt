@@ -7,7 +7,11 @@ pub mod Rows
 pub mod Homes
 pub mod Permission
 pub mod Rights
+pub mod Parts
 pub mod Entries
+pub mod Climbs
+pub mod Hierarchy
+pub mod Blocks
 pub mod Sound
 pub mod Descriptions
 pub mod Waits

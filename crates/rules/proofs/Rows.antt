@@ -20,39 +20,38 @@ use Rattle.rules.proofs.Tables.{table-length, table-past, table-gives}
 
 module _ {A : Type 0} (test : A → Bool) (x : A) (xs : List A) where
   -- it is at the head, or further on
-  place-head : test x ≡ true → placeOf test (x ∷ xs) ≡ 0
+  pub place-head : test x ≡ true → placeOf test (x ∷ xs) ≡ 0
   unfolding placeOf
   place-head t = cond-true 0 (suc (placeOf test xs)) t
 
-  place-past : test x ≡ false → placeOf test (x ∷ xs) ≡ suc (placeOf test xs)
+  pub place-past : test x ≡ false → placeOf test (x ∷ xs) ≡ suc (placeOf test xs)
   unfolding placeOf
   place-past f = cond-false 0 (suc (placeOf test xs)) f
 
--- ---- the row of a processor
-
-place-one : (xs : List Processor) (p r : ℕ)
-    → placeOf (numbered p) xs ≡ placeOf (numbered r) xs → placeOf (numbered r) xs < length xs → p ≡ r
-place-one [] p r e h = absurd (not-suc-le-zero h)
-place-one (x ∷ xs) p r e h =
+-- where an element passes for one number only, two numbers with one place are one
+pub place-one : {A : Type 0} (test : ℕ → A → Bool) → ((p r : ℕ) (x : A) → test p x ≡ true → test r x ≡ true → p ≡ r) → (xs : List A) (p r : ℕ)
+    → placeOf (test p) xs ≡ placeOf (test r) xs → placeOf (test r) xs < length xs → p ≡ r
+place-one test one [] p r e h = absurd (not-suc-le-zero h)
+place-one test one (x ∷ xs) p r e h =
     ⊎-elim
     (λ tp.
-    ⊎-elim (λ tr. eqb-true p (x .number) tp ∙ sym (eqb-true r (x .number) tr))
-    (λ fr. absurd (apart (placeOf (numbered r) xs) (sym (place-head (numbered p) x xs tp) ∙ e ∙ place-past (numbered r) x xs fr)))
-    (decide (numbered r x)))
+    ⊎-elim (λ tr. one p r x tp tr)
+    (λ fr. absurd (apart (placeOf (test r) xs) (sym (place-head (test p) x xs tp) ∙ e ∙ place-past (test r) x xs fr)))
+    (decide (test r x)))
     (λ fp.
     ⊎-elim
-    (λ tr. absurd (apart (placeOf (numbered p) xs) (sym (place-head (numbered r) x xs tr) ∙ sym e ∙ place-past (numbered p) x xs fp)))
+    (λ tr. absurd (apart (placeOf (test p) xs) (sym (place-head (test r) x xs tr) ∙ sym e ∙ place-past (test p) x xs fp)))
     (λ fr.
-    place-one xs p r (ap pred (sym (place-past (numbered p) x xs fp) ∙ e ∙ place-past (numbered r) x xs fr))
-    (le-of-suc-le-suc (subst (λ (n : ℕ). n < suc (length xs)) (place-past (numbered r) x xs fr) h)))
-    (decide (numbered r x)))
-    (decide (numbered p x))
+    place-one test one xs p r (ap pred (sym (place-past (test p) x xs fp) ∙ e ∙ place-past (test r) x xs fr))
+    (le-of-suc-le-suc (subst (λ (n : ℕ). n < suc (length xs)) (place-past (test r) x xs fr) h)))
+    (decide (test r x)))
+    (decide (test p x))
   where
     apart : (n : ℕ) → 0 ≡ suc n → ⊥
     apart n q = omega arith
 
 -- where some element passes, its place is there
-place-there : {A : Type 0} (test : A → Bool) (xs : List A) → anyOf test xs ≡ true → placeOf test xs < length xs
+pub place-there : {A : Type 0} (test : A → Bool) (xs : List A) → anyOf test xs ≡ true → placeOf test xs < length xs
 unfolding anyOf placeOf
 place-there test [] some = clash {x = false} some refl
 place-there test (x ∷ xs) some =
@@ -126,7 +125,8 @@ unfolding onBoard
 row-one d p r e on =
     let at-r = placed d r on in
     let at-p = placed d p (ap (λ (n : ℕ). ltb n rows) e ∙ on) in
-    place-one (d .processors) p r (sym (at-p .row) ∙ e ∙ at-r .row) (at-r .there)
+    place-one numbered (λ n m x is are. eqb-true n (x .number) is ∙ sym (eqb-true m (x .number) are)) (d .processors) p r (sym (at-p .row) ∙ e ∙ at-r .row)
+    (at-r .there)
 
 -- a processor that is listed has its place as its row, where that is one of the rows
 pub listed-on : (d : Description) (p : ℕ) → p < 256 → listsProcessor d p ≡ true → length (d .processors) ≤ rows → onBoard (boardOf d) p ≡ true

@@ -14,15 +14,17 @@ use Rattle.rules.specs.Table.{firstOf}
 use Rattle.rules.specs.Verdict.{accepted}
 use Rattle.rules.specs.Board.{Board, rows, rowOf, onBoard, homeAt, homeOf}
 use Rattle.rules.specs.Description.{descriptionTable, boardVerdict, descriptionIn, described, Good}
-use Rattle.rules.specs.AccessList.{noEntry, listTable, verdictOf}
+use Rattle.rules.specs.AccessList.{noEntry, listTable, verdictOf, entriesOf}
+use Rattle.rules.specs.Block.{listPart, blockTable, blockVerdict}
 use Rattle.rules.specs.Message.{Query, subjectOf}
 use Rattle.rules.specs.Outcome.{outcomeOf, carriedOut}
 use Rattle.rules.specs.Effect.{recordAfter}
-use Rattle.rules.specs.State.{listed, listIn, Own, State, ownOf, joined, freeOwn, fresh, entryOf, recordIn, recordOf, viewOf, putIn, stored}
-use Rattle.rules.specs.Call.{Offer, board, list, verdictTo, taken, afterOffer, afterMessage, queryOf, Call, offer, message, next}
+use Rattle.rules.specs.State.{Source, aList, aBlock, listed, listIn, Own, State, ownOf, joined, freeOwn, fresh, entryOf, recordIn, recordOf, viewOf, putIn, stored}
+use Rattle.rules.specs.Call.{Offer, board, list, block, verdictTo, taken, afterOffer, afterMessage, queryOf, Call, offer, message, next}
 use Rattle.rules.specs.Sequence.{run, permittedFor, freeOrPermitted, Sound}
 use Rattle.rules.proofs.Tests.{decide, clash, or-left, cond-true, cond-false}
 use Rattle.rules.proofs.Homes.{board-good}
+use Rattle.rules.proofs.Blocks.{good-block}
 use Rattle.rules.proofs.Rights.{soundly, allowed, after-sound, refusal-keeps}
 
 -- ---- an offer
@@ -30,6 +32,10 @@ use Rattle.rules.proofs.Rights.{soundly, allowed, after-sound, refusal-
 list-again : (b : Board) (bytes : List ℕ) → accepted (verdictOf b true bytes) ≡ false
 unfolding verdictOf listTable firstOf accepted
 list-again b bytes = refl
+
+block-again : (b : Board) (major minor : ℕ) (bytes : List ℕ) → accepted (blockVerdict b true major minor bytes) ≡ false
+unfolding blockVerdict blockTable firstOf accepted
+block-again b major minor bytes = refl
 
 board-again : (bytes : List ℕ) → accepted (boardVerdict true bytes) ≡ false
 unfolding boardVerdict descriptionTable firstOf accepted
@@ -41,6 +47,8 @@ unfolding verdictTo
 offer-refused s (board bytes) e = subst⁻¹ (λ (x : Bool). accepted (boardVerdict x bytes) ≡ false) e (board-again bytes)
 offer-refused s (list bytes) e =
     subst⁻¹ (λ (x : Bool). accepted (verdictOf (s .setup .board) x bytes) ≡ false) e (list-again (s .setup .board) bytes)
+offer-refused s (block major minor bytes) e =
+    subst⁻¹ (λ (x : Bool). accepted (blockVerdict (s .setup .board) x major minor bytes) ≡ false) e (block-again (s .setup .board) major minor bytes)
 
 -- and changes nothing
 pub offer-kept : (s : State) (o : Offer) → listed (s .setup .source) ≡ true → afterOffer s o ≡ s
@@ -51,6 +59,33 @@ offer-kept s o e = cond-false _ _ (offer-refused s o e)
 pub first-accepted : (s : State) (o : Offer) → accepted (verdictTo s o) ≡ true → listed (s .setup .source) ≡ false
 first-accepted s o ok =
     ⊎-elim (λ t. clash ok (offer-refused s o t)) (λ f. f) (decide (listed (s .setup .source)))
+
+-- the list of a block that is accepted is accepted alone
+list-too : (s : State) (major minor : ℕ) (bytes : List ℕ) → accepted (verdictTo s (block major minor bytes)) ≡ true
+    → accepted (verdictTo s (list (listPart bytes))) ≡ true
+unfolding verdictTo
+list-too s major minor bytes ok =
+    let good = good-block (s .setup .board) (listed (s .setup .source)) major minor bytes ok in
+    subst⁻¹ (λ (x : Bool). accepted (verdictOf (s .setup .board) x (listPart bytes)) ≡ true) (good .nothing-before) (good .list-good)
+
+-- document 02, L1: where a block is accepted its list is too, and both leave the same entries, and the same of all that a message sees
+pub record AsItsList (s : State) (o : Offer) (list-bytes : List ℕ) : Type 0 where
+  pub list-accepted : accepted (verdictTo s (list list-bytes)) ≡ true
+  pub same-entries : afterOffer s o .setup .entries ≡ afterOffer s (list list-bytes) .setup .entries
+  pub same-views : (p : ℕ) → viewOf (afterOffer s o) p ≡ viewOf (afterOffer s (list list-bytes)) p
+
+pub block-as-list : (s : State) (major minor : ℕ) (bytes : List ℕ) → accepted (verdictTo s (block major minor bytes)) ≡ true
+    → AsItsList s (block major minor bytes) (listPart bytes)
+unfolding afterOffer taken listed viewOf entryOf recordOf
+block-as-list s major minor bytes ok =
+    let lone = list-too s major minor bytes ok in
+    let of-block = cond-true (taken s (block major minor bytes)) s ok in
+    let of-list = sym (cond-true (taken s (list (listPart bytes))) s lone) in
+    record {
+      list-accepted = lone;
+      same-entries = ap (λ (t : State). t .setup .entries) of-block ∙ ap (λ (t : State). t .setup .entries) of-list;
+      same-views = λ p. ap (λ (t : State). viewOf t p) of-block ∙ ap (λ (t : State). viewOf t p) of-list;
+    }
 
 -- ---- a message
 
@@ -170,31 +205,48 @@ sound-fresh b good =
       holder-permitted = λ p. or-left _ (fresh-free b (rowOf b p));
     }
 
+-- a list that is in force from now on, in a state that was fresh: of whatever it came in, the lone list or a block
+module _ (s : State) (sound : Sound s) (none : listed (s .setup .source) ≡ false) (source : Source) where
+  listing : State
+  listing =
+      record {
+        setup = record { board = s .setup .board; source = source; entries = entriesOf (s .setup .board) (listIn source) };
+        records = s .records;
+      }
+
+  sound-listing : listed source ≡ true → accepted (verdictOf (s .setup .board) false (listIn source)) ≡ true → Sound listing
+  unfolding listing fresh freeOrPermitted recordOf recordIn
+  sound-listing is good =
+      record {
+        board-good = sound .board-good;
+        rows-there = sound .rows-there;
+        homes-there = sound .homes-there;
+        spare-free = sound .spare-free;
+        spare-zero = sound .spare-zero;
+        none-fresh = λ e. clash is e;
+        list-good = λ t. good;
+        entries-its = λ t. refl;
+        holder-permitted =
+            λ p.
+            or-left _
+            (ap (λ (t : State). eqb (getD (t .records .own) (rowOf (s .setup .board) p) freeOwn .controller) 0) (sound .none-fresh none)
+            ∙ fresh-free (s .setup .board) (rowOf (s .setup .board) p));
+      }
+
 -- what an accepted offer sets, in a state that was fresh
 sound-taken : (s : State) → Sound s → (o : Offer) → accepted (verdictTo s o) ≡ true → Sound (taken s o)
-unfolding verdictTo taken fresh listed listIn freeOrPermitted recordOf recordIn described
+unfolding verdictTo taken fresh listed listIn listing described
 sound-taken s sound (board bytes) ok =
     let none = first-accepted s (board bytes) ok in
     subst⁻¹ Sound (ap (λ (t : State). taken t (board bytes)) (sound .none-fresh none))
     (sound-fresh (described bytes) (board-good (descriptionIn bytes)))
 sound-taken s sound (list bytes) ok =
     let none = first-accepted s (list bytes) ok in
-    let was : s ≡ fresh (s .setup .board) = sound .none-fresh none in
-    record {
-      board-good = sound .board-good;
-      rows-there = sound .rows-there;
-      homes-there = sound .homes-there;
-      spare-free = sound .spare-free;
-      spare-zero = sound .spare-zero;
-      none-fresh = λ e. clash {x = true} refl e;
-      list-good = λ t. subst (λ (x : Bool). accepted (verdictOf (s .setup .board) x bytes) ≡ true) none ok;
-      entries-its = λ t. refl;
-      holder-permitted =
-          λ p.
-          or-left _
-          (ap (λ (t : State). eqb (getD (t .records .own) (rowOf (s .setup .board) p) freeOwn .controller) 0) was
-          ∙ fresh-free (s .setup .board) (rowOf (s .setup .board) p));
-    }
+    sound-listing s sound none (aList bytes) refl
+    (subst (λ (x : Bool). accepted (verdictOf (s .setup .board) x bytes) ≡ true) none ok)
+sound-taken s sound (block major minor bytes) ok =
+    sound-listing s sound (first-accepted s (block major minor bytes) ok) (aBlock bytes) refl
+    (good-block (s .setup .board) (listed (s .setup .source)) major minor bytes ok .list-good)
 
 sound-offer : (s : State) → Sound s → (o : Offer) → Sound (afterOffer s o)
 unfolding afterOffer

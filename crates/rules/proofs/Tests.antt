@@ -3,12 +3,12 @@ use Prim.Native.Nat.{ℕ, zero, suc, pred, _+_, _<_}
 use native.Mathlib.Nat.{add-zero, zero-add, add-suc, suc-add, le-of-suc-le-suc, not-suc-le-zero}
 use native.Mathlib.Omega.{arith}
 use mathlib.Core.Path.{_≡_, refl, sym, subst, _∙_, ap}
-use mathlib.Core.Bool.{Bool, true, false, cond, _&&_, _||_, true≢false}
+use mathlib.Core.Bool.{Bool, true, false, cond, not, _&&_, _||_, true≢false}
 use mathlib.Core.List.{List, [], _∷_, _++_}
 use mathlib.Core.Logic.{_⊎_, inl, inr, ⊎-elim}
 use lib.ListN.{length, getD, set}
 use lib.Dec.{eqb}
-use borrow.Author.Tests.{eqb-true, eq-eqb}
+use borrow.Author.Tests.{eqb-true, eq-eqb, not-true}
 use Rattle.rules.specs.Table.{Line, _gives_, firstOf, anyOf, allOf, allFrom}
 
 pub decide : (x : Bool) → (x ≡ true) ⊎ (x ≡ false)
@@ -76,6 +76,51 @@ module _ {A : Type 0} (good : A → Bool) (other : A) (test : Bool) (a : A) (bel
   pub passed : good (firstOf other below) ≡ true
   unfolding firstOf
   passed = rw (cond-false a (firstOf other below) cleared) at comes
+
+-- a line whose test fails is passed over
+pub skipped : {A : Type 0} (other : A) {test : Bool} (a : A) (below : List (Line A)) → test ≡ false → firstOf other ((test gives a) ∷ below) ≡ firstOf other below
+unfolding firstOf
+skipped other a below fails = cond-false a (firstOf other below) fails
+
+-- no line of a table gives a good answer
+unfoldable pub noneGood : {A : Type 0} → (A → Bool) → List (Line A) → Bool
+noneGood good [] = true
+noneGood good ((test gives a) ∷ below) = not (good a) && noneGood good below
+
+pub none-append : {A : Type 0} (good : A → Bool) (above below : List (Line A))
+    → noneGood good above ≡ true → noneGood good below ≡ true → noneGood good (above ++ below) ≡ true
+unfolding noneGood
+none-append good [] below a b = b
+none-append good ((test gives x) ∷ above) below a b =
+    and-both (and-left (not (good x)) (noneGood good above) a) (none-append good above below (and-right (not (good x)) (noneGood good above) a) b)
+
+-- such a table comes to none, where there is none below it
+pub none-not : {A : Type 0} (good : A → Bool) (x : A) (table : List (Line A)) → noneGood good table ≡ true → good x ≡ false → good (firstOf x table) ≡ false
+unfolding noneGood firstOf
+none-not good x [] none bad = bad
+none-not good x ((test gives a) ∷ below) none bad =
+    ⊎-elim
+    (λ (t : test ≡ true). rw t (not-true (good a) (and-left (not (good a)) (noneGood good below) none)))
+    (λ (f : test ≡ false). rw f (none-not good x below (and-right (not (good a)) (noneGood good below) none) bad))
+    (decide test)
+
+-- such a table comes to a good answer only where no test of it holds
+module _ {A : Type 0} (good : A → Bool) (x y : A) where
+  pub none-falls : (table : List (Line A)) → noneGood good table ≡ true → good (firstOf x table) ≡ true → firstOf y table ≡ y
+  unfolding noneGood firstOf
+  none-falls [] none ok = refl
+  none-falls ((test gives a) ∷ below) none ok =
+      ⊎-elim
+      (λ (t : test ≡ true). clash (rw t at ok) (not-true (good a) (and-left (not (good a)) (noneGood good below) none)))
+      (λ (f : test ≡ false). rw f (none-falls below (and-right (not (good a)) (noneGood good below) none) (rw f at ok)))
+      (decide test)
+
+  -- and to any other only by a line of its own, whatever comes below
+  pub none-stops : (table : List (Line A)) → good x ≡ true → good (firstOf x table) ≡ false → firstOf y table ≡ firstOf x table
+  unfolding firstOf
+  none-stops [] ok bad = clash ok bad
+  none-stops ((test gives a) ∷ below) ok bad =
+      ⊎-elim (λ (t : test ≡ true). rw t) (λ (f : test ≡ false). rw f (none-stops below ok (rw f at bad))) (decide test)
 
 -- ---- searches
 

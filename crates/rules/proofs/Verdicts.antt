@@ -7,7 +7,7 @@ use mathlib.Core.Logic.{⊎-elim}
 use native.Mathlib.Omega.{arith}
 use types.Run.{OneOf}
 use Rattle.rules.specs.declared.Verdict.{Verdict}
-use Rattle.rules.specs.declared.Verdict.the-variants.{Accepted, A1, A2, A3, A4, A5, A6, A7, A8, D1, D2, D3, D4, D5, D6}
+use Rattle.rules.specs.declared.Verdict.the-variants.{Accepted, A1, A2, A3, A4, A5, A6, A7, A8, B1, B2, B3, B4, B5, B6, B7, B8, B9, B10, D1, D2, D3, D4, D5, D6}
 use Rattle.rules.specs.Verdict.{accepted}
 
 pub not-accepted : (v : Verdict) → (v ≡ Accepted → ⊥) → accepted v ≡ false
@@ -21,6 +21,16 @@ not-accepted A5 bad = refl
 not-accepted A6 bad = refl
 not-accepted A7 bad = refl
 not-accepted A8 bad = refl
+not-accepted B1 bad = refl
+not-accepted B2 bad = refl
+not-accepted B3 bad = refl
+not-accepted B4 bad = refl
+not-accepted B5 bad = refl
+not-accepted B6 bad = refl
+not-accepted B7 bad = refl
+not-accepted B8 bad = refl
+not-accepted B9 bad = refl
+not-accepted B10 bad = refl
 not-accepted D1 bad = refl
 not-accepted D2 bad = refl
 not-accepted D3 bad = refl
@@ -34,5 +44,5 @@ no-zero (k ∷ []) h = omega arith
 no-zero (k ∷ l ∷ ks) h = ⊎-elim (λ e. omega (arith, e)) (λ later. no-zero (l ∷ ks) later) h
 
 -- the number of `Accepted` is none of the refusals' numbers
-pub no-fault : OneOf (1 ∷ 2 ∷ 3 ∷ 4 ∷ 5 ∷ 6 ∷ 7 ∷ 8 ∷ 9 ∷ 10 ∷ 11 ∷ 12 ∷ 13 ∷ 14 ∷ []) 0 → ⊥
-no-fault h = no-zero (0 ∷ 1 ∷ 2 ∷ 3 ∷ 4 ∷ 5 ∷ 6 ∷ 7 ∷ 8 ∷ 9 ∷ 10 ∷ 11 ∷ 12 ∷ 13 ∷ []) h
+pub no-fault : OneOf (1 ∷ 2 ∷ 3 ∷ 4 ∷ 5 ∷ 6 ∷ 7 ∷ 8 ∷ 9 ∷ 10 ∷ 11 ∷ 12 ∷ 13 ∷ 14 ∷ 15 ∷ 16 ∷ 17 ∷ 18 ∷ 19 ∷ 20 ∷ 21 ∷ 22 ∷ 23 ∷ 24 ∷ []) 0 → ⊥
+no-fault h = no-zero (0 ∷ 1 ∷ 2 ∷ 3 ∷ 4 ∷ 5 ∷ 6 ∷ 7 ∷ 8 ∷ 9 ∷ 10 ∷ 11 ∷ 12 ∷ 13 ∷ 14 ∷ 15 ∷ 16 ∷ 17 ∷ 18 ∷ 19 ∷ 20 ∷ 21 ∷ 22 ∷ 23 ∷ []) h

@@ -1,15 +1,16 @@
 -- "Access list": 292 bytes, 32 entries of nine bytes each; why a list is refused, in order; the entries that an accepted list leaves; who
 -- is permitted. Hosts here are 16-bit numbers and stay so. Assumes nothing.
-use Prim.Native.Nat.{ℕ, zero, suc, _+_, _*_}
+use Prim.Native.Nat.{ℕ}
 use mathlib.Core.Bool.{Bool, cond, not, _&&_, _||_}
-use mathlib.Core.List.{List, [], _∷_, _++_}
-use lib.ListN.{length, take, drop, set, replicate}
+use mathlib.Core.List.{List, [], _∷_}
+use lib.ListN.{length, set, replicate}
 use lib.Dec.{eqb}
 use Rattle.rules.specs.declared.Verdict.{Verdict}
 use Rattle.rules.specs.declared.Verdict.the-variants.{Accepted, A1, A2, A3, A4, A5, A6, A7, A8}
 use Rattle.rules.specs.Table.{Line, _gives_, firstOf, anyOf}
-use Rattle.rules.specs.Bytes.{byteAt, u16At}
+use Rattle.rules.specs.Bytes.{u16At}
 use Rattle.rules.specs.Board.{Board, boardHost, activeHost, rows, rowOf, onBoard}
+use Rattle.rules.specs.Substructure.{magicIn, sizeIn, partsFrom, numberIn, used, namedIn, inTurn}
 
 -- what an entry says of its processor: the recovery master and three secondaries. A7 keeps master 0 out of a list, so master 0 stands
 -- for no entry
@@ -24,34 +25,18 @@ noEntry = record { master = 0; first = 0; second = 0; third = 0 }
 
 -- ---- the list's parts
 
--- entry e as its own nine-byte part of the list
-abbrev pub partAt : List ℕ → ℕ → List ℕ
-partAt list e = take 9 (drop (4 + 9 * e) list)
-
--- n parts from entry e on
-unfoldable pub partsFrom : List ℕ → ℕ → ℕ → List (List ℕ)
-partsFrom list e zero = []
-partsFrom list e (suc n) = partAt list e ∷ partsFrom list (suc e) n
-
+-- each entry as its own nine-byte part of the list
 abbrev pub parts : List ℕ → List (List ℕ)
-parts list = partsFrom list 0 32
+parts list = partsFrom 9 list 0 32
 
 abbrev pub processorIn : List ℕ → ℕ
-processorIn part = byteAt part 0
+processorIn part = numberIn part
 
 abbrev pub masterIn : List ℕ → ℕ
 masterIn part = u16At part 1
 
 abbrev pub secondariesIn : List ℕ → List ℕ
 secondariesIn part = u16At part 3 ∷ u16At part 5 ∷ u16At part 7 ∷ []
-
--- processor 0 marks an unused entry; its other bytes are not looked at
-abbrev pub used : List ℕ → Bool
-used part = not (eqb (processorIn part) 0)
-
--- a used entry of these names processor p
-unfoldable pub namedIn : List (List ℕ) → ℕ → Bool
-namedIn entries p = anyOf (λ (part : List ℕ). used part && eqb (processorIn part) p) entries
 
 -- ---- why a list is refused
 
@@ -68,19 +53,16 @@ entryTable b earlier part =
     ∷ (used part && anyOf (badSecondary b) (secondariesIn part) gives A8)
     ∷ []
 
--- each entry in turn
-unfoldable pub entriesTable : Board → List (List ℕ) → List (List ℕ) → List (Line Verdict)
-entriesTable b earlier [] = []
-entriesTable b earlier (part ∷ rest) = entryTable b earlier part ++ entriesTable b (part ∷ earlier) rest
+-- A3 and A4, then the entries 0 to 31: what is judged of a list, alone or in a block (document 02, L1)
+unfoldable pub contentTable : Board → List ℕ → List (Line Verdict)
+contentTable b list =
+    (not (eqb (magicIn list) 0xF1EA) gives A3)
+    ∷ (not (eqb (sizeIn list) 292) gives A4)
+    ∷ inTurn (entryTable b) [] (parts list)
 
--- A1 to A4 in that order, then the entries 0 to 31
+-- A1, where a list or a block was accepted, and A2 come first
 unfoldable pub listTable : Board → Bool → List ℕ → List (Line Verdict)
-listTable b listed list =
-    (listed gives A1)
-    ∷ (not (eqb (length list) 292) gives A2)
-    ∷ (not (eqb (u16At list 0) 0xF1EA) gives A3)
-    ∷ (not (eqb (u16At list 2) 292) gives A4)
-    ∷ entriesTable b [] (parts list)
+listTable b listed list = (listed gives A1) ∷ (not (eqb (length list) 292) gives A2) ∷ contentTable b list
 
 -- the first fault is reported
 unfoldable pub verdictOf : Board → Bool → List ℕ → Verdict

@@ -1,5 +1,5 @@
--- The calls: an offer, which is a board description (document 02, L8) or a list ("Access list"), and a message ("Messages"); what each is
--- told, and the state that it leaves. Assumes nothing.
+-- The calls: an offer, which is a board description (document 02, L8), a list ("Access list") or a block (document 02, L1), and a message
+-- ("Messages"); what each is told, and the state that it leaves. Assumes nothing.
 use Prim.Native.Nat.{ℕ}
 use mathlib.Core.Bool.{cond}
 use mathlib.Core.List.{List}
@@ -9,23 +9,27 @@ use Rattle.rules.specs.declared.Verdict.{Verdict}
 use Rattle.rules.specs.Verdict.{accepted}
 use Rattle.rules.specs.Description.{boardVerdict, described}
 use Rattle.rules.specs.AccessList.{entriesOf, verdictOf}
+use Rattle.rules.specs.Block.{listPart, blockVerdict}
 use Rattle.rules.specs.Message.{Query, subjectOf}
 use Rattle.rules.specs.Effect.{recordAfter}
 use Rattle.rules.specs.Answer.{reportOf, answerOf}
-use Rattle.rules.specs.State.{aList, listed, State, viewOf, stored}
+use Rattle.rules.specs.State.{aList, aBlock, listed, State, viewOf, stored}
 
 -- ---- offers
 
--- what can set the state up: a board description or a list, with its bytes
+-- what can set the state up, with its bytes: a board description, a list, or a block with the two ABI bytes that the caller names
 pub data Offer : Type 0 where
   board : List ℕ → Offer
   list : List ℕ → Offer
+  block : ℕ → ℕ → List ℕ → Offer
 
 unfoldable pub verdictTo : State → Offer → Verdict
 verdictTo s (board bytes) = boardVerdict (listed (s .setup .source)) bytes
 verdictTo s (list bytes) = verdictOf (s .setup .board) (listed (s .setup .source)) bytes
+verdictTo s (block major minor bytes) = blockVerdict (s .setup .board) (listed (s .setup .source)) major minor bytes
 
--- what an accepted offer sets, and the records stay: a description's board replaces the board before it whole; a list's entries are in force
+-- what an accepted offer sets, and the records stay: a description's board replaces the board before it whole; a list's entries are in force, and
+-- of a block those of its list
 unfoldable pub taken : State → Offer → State
 taken s (board bytes) =
     record {
@@ -35,6 +39,12 @@ taken s (board bytes) =
 taken s (list bytes) =
     record {
       setup = record { board = s .setup .board; source = aList bytes; entries = entriesOf (s .setup .board) bytes };
+      records = s .records;
+    }
+taken s (block major minor bytes) =
+    record {
+      setup =
+          record { board = s .setup .board; source = aBlock bytes; entries = entriesOf (s .setup .board) (listPart bytes) };
       records = s .records;
     }
 

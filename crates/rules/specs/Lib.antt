@@ -5,7 +5,10 @@ pub mod Bytes
 pub mod Verdict
 pub mod Board
 pub mod Description
+pub mod Substructure
 pub mod AccessList
+pub mod Hierarchy
+pub mod Block
 pub mod Role
 pub mod Message
 pub mod Flags

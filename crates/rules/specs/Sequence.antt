@@ -40,9 +40,9 @@ pub record Sound (s : State) : Type 0 where
       (row : ℕ) → ((p : ℕ) → onBoard (s .setup .board) p ≡ true → eqb (rowOf (s .setup .board) p) row ≡ false) → getD (s .records .own) row freeOwn ≡ freeOwn
   pub spare-zero :
       (row : ℕ) → ((p : ℕ) → onBoard (s .setup .board) p ≡ true → eqb (homeOf (s .setup .board) p) row ≡ false) → getD (s .records .controls) row 0 ≡ 0
-  -- with no list accepted the state is fresh
+  -- with nothing accepted the state is fresh
   pub none-fresh : listed (s .setup .source) ≡ false → s ≡ fresh (s .setup .board)
-  -- a list that is in force is one that the table accepts
+  -- a list that is in force, alone or of a block, is one that the table accepts
   pub list-good :
       listed (s .setup .source) ≡ true → accepted (verdictOf (s .setup .board) false (listIn (s .setup .source))) ≡ true
   -- and the entries are its entries

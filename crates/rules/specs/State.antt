@@ -1,4 +1,4 @@
--- The state: the board in force (document 02, L8), what was accepted and what stands since then ("Access list"), and each processor's record
+-- The state: the board in force (document 02, L8), what was accepted and what stands since then ("Access list"; document 02, L1), and each processor's record
 -- ("Our board"), of which the control word may be a cluster's (document 02, L4). A message call sees a `View` of it. Assumes nothing.
 use Prim.Native.Nat.{ℕ}
 use mathlib.Core.Bool.{Bool, true, false}
@@ -7,22 +7,26 @@ use lib.ListN.{getD, set, replicate}
 use Rattle.rules.specs.declared.Record.{Record}
 use Rattle.rules.specs.Board.{Board, rows, rowOf, homeAt}
 use Rattle.rules.specs.AccessList.{Entry, noEntry, noEntries}
+use Rattle.rules.specs.Block.{listPart}
 use Rattle.rules.specs.Outcome.{View}
 
 -- what was accepted, with its bytes as they came
 pub data Source : Type 0 where
   nothing : Source
   aList : List ℕ → Source
+  aBlock : List ℕ → Source
 
--- a list was accepted
+-- a list or a block was accepted
 unfoldable pub listed : Source → Bool
 listed nothing = false
 listed (aList bytes) = true
+listed (aBlock bytes) = true
 
--- the bytes of the list that was accepted
+-- the bytes of the list that was accepted, alone or in a block
 unfoldable pub listIn : Source → List ℕ
 listIn nothing = []
 listIn (aList bytes) = bytes
+listIn (aBlock bytes) = listPart bytes
 
 -- what an offer sets, and no message changes: the board, what was accepted, and its entries by row
 pub record Setup : Type 0 where
@@ -59,7 +63,7 @@ joined own control =
 unfoldable pub freeOwn : Own
 freeOwn = record { controller = 0; low = 0; high = 0; config = 0 }
 
--- all start free and zero, on this board, and no list is accepted
+-- all start free and zero, on this board, and nothing is accepted
 unfoldable pub fresh : Board → State
 fresh b =
     record {

@@ -18,8 +18,8 @@ pub enum Outcome {
     Ok,
 }
 
-// What an offer comes to, an access list or a board description: accepted, or refused by a row of
-// document 01's table or of document 02's.
+// What an offer comes to, an access list, a security board configuration or a board description: accepted,
+// or refused by a row of document 01's table or of document 02's.
 pub enum Verdict {
     Accepted,
     A1,
@@ -30,12 +30,29 @@ pub enum Verdict {
     A6,
     A7,
     A8,
+    B1,
+    B2,
+    B3,
+    B4,
+    B5,
+    B6,
+    B7,
+    B8,
+    B9,
+    B10,
     D1,
     D2,
     D3,
     D4,
     D5,
     D6,
+}
+
+// What a security board configuration comes to: the verdict, and the host that B8 reports, 0 with any
+// other verdict.
+pub struct BlockReport {
+    pub verdict: Verdict,
+    pub host: u8,
 }
 
 // One item of a board description, by its tag: 1 a host, 2 a processor, 0 for a field that is neither.

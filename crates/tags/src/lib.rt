@@ -2,11 +2,11 @@
 ghost use mathlib.Core.Path.{_≡_};
 ghost use Rattle.tags.specs.Tags.{tagGood, lengthGood};
 
-// Whether a tag is one of the four.
+// Whether a tag is one of the five.
 pub fn tag_good(tag: u8) -> bool
     ensures { λ r. ⌜ r ≡ tagGood tag ⌝ }
 {
-    (tag == 1) | (tag == 2) | (tag == 3) | (tag == 6)
+    (tag == 1) | (tag == 2) | (tag == 3) | (tag == 4) | (tag == 6)
 }
 
 // Whether a field of this tag may have this length.
@@ -17,6 +17,7 @@ pub fn length_good(tag: u8, length: u16) -> bool
         1 => length <= 512,
         2 => (length <= 1020) & (length % 4 == 0),
         3 => (1 <= length) & (length <= 512),
+        4 => length <= 512,
         6 => length <= 512,
         _ => false,
     }

@@ -1,19 +1,22 @@
--- The bytes of the accepted list, which the memories do not keep, play no part: the rules give the same answers without them, and
+-- The bytes of the accepted list or block, which the memories do not keep, play no part: the rules give the same answers without them, and
 -- leave the same of a state. Assumes nothing.
 use Prim.Native.Nat.{ℕ}
 use mathlib.Core.Path.{_≡_, refl, sym, ap, _∙_}
-use mathlib.Core.Bool.{Bool}
+use mathlib.Core.Bool.{Bool, true}
+use mathlib.Core.List.{List}
 use mathlib.Core.Logic.{⊎-elim}
 use Rattle.rules.specs.Board.{rowOf}
 use Rattle.rules.specs.Description.{boardVerdict, described}
 use Rattle.rules.specs.Verdict.{accepted}
 use Rattle.rules.specs.AccessList.{verdictOf}
+use Rattle.rules.specs.Block.{listPart, blockVerdict}
 use Rattle.rules.specs.Message.{Query, subjectOf}
 use Rattle.rules.specs.Outcome.{View}
 use Rattle.rules.specs.Effect.{recordAfter}
 use Rattle.rules.specs.Answer.{reportOf, answerOf}
 use Rattle.rules.specs.State.{listed, State, entryOf, recordOf, viewOf, putIn, stored}
-use Rattle.rules.specs.Call.{Offer, board, list, verdictTo, taken, afterOffer, afterMessage, answerTo}
+use Rattle.rules.specs.Call.{Offer, board, list, block, verdictTo, taken, afterOffer, afterMessage, answerTo}
+use Rattle.rules.proofs.Sound.{block-as-list}
 use Rattle.rules.proofs.Tests.{decide, cond-true, cond-false}
 use Rattle.access.specs.Memory.{someList, keptSetup}
 use Rattle.access.proofs.Kept.{keeps-listed}
@@ -59,6 +62,7 @@ pub verdict-kept : (s : State) (o : Offer) → verdictTo (kept s) o ≡ verdictT
 unfolding verdictTo kept keptSetup
 verdict-kept s (board bytes) = ap (λ (x : Bool). boardVerdict x bytes) (keeps-listed (s .setup))
 verdict-kept s (list bytes) = ap (λ (b : Bool). verdictOf (s .setup .board) b bytes) (keeps-listed (s .setup))
+verdict-kept s (block major minor bytes) = ap (λ (b : Bool). blockVerdict (s .setup .board) b major minor bytes) (keeps-listed (s .setup))
 
 taken-kept : (s : State) (o : Offer) → kept (taken (kept s) o) ≡ kept (taken s o)
 unfolding taken kept keptSetup
@@ -66,6 +70,7 @@ taken-kept s (board bytes) =
     ap (λ (x : Bool). record { setup = record { board = described bytes; source = someList x; entries = s .setup .entries }; records = s .records })
     (keeps-listed (s .setup))
 taken-kept s (list bytes) = refl
+taken-kept s (block major minor bytes) = refl
 
 pub offer-kept : (s : State) (o : Offer) → kept (afterOffer (kept s) o) ≡ kept (afterOffer s o)
 unfolding afterOffer
@@ -77,3 +82,11 @@ offer-kept s o =
     (λ no.
     ap kept (cond-false (taken (kept s) o) (kept s) (same ∙ no)) ∙ twice s ∙ ap kept (sym (cond-false (taken s o) s no)))
     (decide (accepted (verdictTo s o)))
+
+-- what is kept of the state that an accepted block leaves is what is kept of that which its list leaves
+pub block-kept : (s : State) (major minor : ℕ) (bytes : List ℕ) → accepted (verdictTo s (block major minor bytes)) ≡ true
+    → kept (afterOffer s (block major minor bytes)) ≡ kept (afterOffer s (list (listPart bytes)))
+unfolding afterOffer taken kept keptSetup listed
+block-kept s major minor bytes ok =
+    ap kept (cond-true (taken s (block major minor bytes)) s ok)
+    ∙ ap kept (sym (cond-true (taken s (list (listPart bytes))) s (block-as-list s major minor bytes ok .list-accepted)))

@@ -11,7 +11,8 @@ use Rattle.rules.specs.Table.{firstOf, anyOf, allOf, placeOf, allFrom, tableOf}
 use Rattle.rules.specs.Board.{Board, boardHost, activeHost, rowOf, onBoard, classAt, classOf, homeAt, homeOf, shareControl}
 use Rattle.rules.specs.Description.{ourDescription, listsProcessor, markIn, rowIn, classIn, sharedCluster, sharedIn, homeIn, boardOf, ours}
 use Rattle.rules.specs.Verdict.{accepted}
-use Rattle.rules.specs.AccessList.{noEntry, partsFrom, namedIn, entryTable, entriesTable, listTable, verdictOf, entryIn, withPart, withParts, noEntries, entriesOf, hasEntry}
+use Rattle.rules.specs.Substructure.{partsFrom, namedIn, inTurn}
+use Rattle.rules.specs.AccessList.{noEntry, entryTable, contentTable, listTable, verdictOf, entryIn, withPart, withParts, noEntries, entriesOf, hasEntry}
 use Rattle.rules.specs.Role.{namesHost, roleTable, roleOf, permitted}
 use Rattle.rules.specs.Message.{answerAsked, kindOf, waitIn, subjectOf}
 use Rattle.rules.specs.Outcome.{senderWrong, wordsMissing, waitFailed, admission, byWords, outcomeTable, outcomeOf, carriedOut, silent}
@@ -29,7 +30,7 @@ use Rattle.board.specs.Memory.{boardBytes}
 use Rattle.boards.proofs.Started.{start-read}
 use Rattle.manager.specs.Calls.{lending, ListCall, MessageCall}
 use Rattle.manager.proofs.EachCall.{list-state}
-use Rattle.traces.specs.Trace.{Memories, started, Step, listStep, messageStep, beforeOf, Meets, Trace, done, step, Loaded}
+use Rattle.traces.specs.Trace.{Memories, started, Step, listStep, messageStep, beforeOf, afterOf, Meets, Trace, done, step, Loads, Loaded}
 use Rattle.traces.specs.Statement.{CodeNoninterference}
 use Rattle.traces.proofs.Theorem.{of-the-code}
 
@@ -41,18 +42,20 @@ abbrev listed-memories : Memories
 listed-memories = record { board = boardBytes ours; access = accessAfter ours (replicate 129 0) benchList; records = replicate 160 0 }
 
 bench-accepted : ListCall ours (replicate 129 0) benchList (accessAfter ours (replicate 129 0) benchList) Accepted
-unfolding tableOf ours ourDescription listsProcessor markIn rowIn classIn sharedCluster sharedIn homeIn boardOf firstOf anyOf boardHost activeHost placeOf rowOf onBoard partsFrom namedIn entryTable entriesTable listTable verdictOf listedIn
+unfolding tableOf ours ourDescription listsProcessor markIn rowIn classIn sharedCluster sharedIn homeIn boardOf firstOf anyOf boardHost activeHost placeOf rowOf onBoard partsFrom namedIn entryTable inTurn contentTable listTable verdictOf listedIn
 bench-accepted = record { verdict = refl; memory = refl; state = list-state ours (replicate 129 0) benchList }
 
 pub bench-loaded : Loaded ours benchList listed-memories
-unfolding Meets beforeOf
+unfolding Meets beforeOf afterOf Loads
 bench-loaded =
     record {
       earlier = [];
-      before = started;
+      last = listStep benchList started listed-memories Accepted;
       trace =
           step {x = listStep benchList started listed-memories Accepted} refl
           (subst⁻¹ (λ (b : Board). ListCall b (replicate 129 0) benchList (accessAfter ours (replicate 129 0) benchList) Accepted) start-read bench-accepted, refl, refl) done;
+      takes = (refl, refl);
+      left = refl;
       in-force = start-read;
     }
 
@@ -70,7 +73,7 @@ request-step =
 
 bench-answered : MessageCall ours (accessAfter ours (replicate 129 0) benchList) (replicate 160 0) asked (3 ∷ replicate 159 0) (header 0x00 0xC0 3 2 ++ replicate 21 0xFF)
     (record { outcome = Ok; checks = 0; micros = 0; written = 8; role = Master })
-unfolding tableOf ours ourDescription listsProcessor markIn rowIn classIn sharedCluster sharedIn homeIn boardOf firstOf anyOf boardHost activeHost placeOf rowOf onBoard classAt classOf homeAt noEntry partsFrom namedIn entryTable entriesTable listTable verdictOf accepted entryIn withPart withParts noEntries entriesOf hasEntry namesHost roleTable roleOf permitted answerAsked kindOf waitIn subjectOf senderWrong wordsMissing waitFailed admission byWords outcomeTable outcomeOf carriedOut silent recordAfter ackBytes bytesFor answerBytes answerOf waited tellsRole reportOf listed freeOwn entryOf recordIn recordOf viewOf putIn stored afterMessage answerTo next listedIn entryAt entriesIn someList setupIn wordsOf accessAfter recordsIn stateIn
+unfolding tableOf ours ourDescription listsProcessor markIn rowIn classIn sharedCluster sharedIn homeIn boardOf firstOf anyOf boardHost activeHost placeOf rowOf onBoard classAt classOf homeAt noEntry partsFrom namedIn entryTable inTurn contentTable listTable verdictOf accepted entryIn withPart withParts noEntries entriesOf hasEntry namesHost roleTable roleOf permitted answerAsked kindOf waitIn subjectOf senderWrong wordsMissing waitFailed admission byWords outcomeTable outcomeOf carriedOut silent recordAfter ackBytes bytesFor answerBytes answerOf waited tellsRole reportOf listed freeOwn entryOf recordIn recordOf viewOf putIn stored afterMessage answerTo next listedIn entryAt entriesIn someList setupIn wordsOf accessAfter recordsIn stateIn
 bench-answered = record { report = refl; records = refl; buffer = refl }
 
 pub bench-trace : Trace listed-memories (request-step ∷ [])

@@ -10,7 +10,8 @@ use Rattle.rules.specs.Table.{firstOf, anyOf, allOf, placeOf, allFrom, tableOf}
 use Rattle.rules.specs.Verdict.{accepted}
 use Rattle.rules.specs.Board.{Board, boardHost, activeHost, rowOf, onBoard, homeAt, homeOf, shareControl}
 use Rattle.rules.specs.Description.{nothingListed, bodySize, fieldGood, noItem, itemIn, fieldSize, itemsFrom, itemsIn, listsHost, listsProcessor, repeats, otherClass, isFull, itemTable, withItem, itemsTable, descriptionTable, boardVerdict, withItems, descriptionIn, markIn, rowIn, classIn, sharedCluster, sharedIn, homeIn, shareWord, boardOf, described, ours}
-use Rattle.rules.specs.AccessList.{partsFrom, namedIn, entryTable, entriesTable, listTable, verdictOf}
+use Rattle.rules.specs.Substructure.{partsFrom, namedIn, inTurn}
+use Rattle.rules.specs.AccessList.{entryTable, contentTable, listTable, verdictOf}
 use Rattle.rules.specs.Boards.{packBytes, packList}
 use Rattle.noninterference.specs.Statement.{clustersWhole}
 use Rattle.board.specs.Memory.{boardIn, boardBytes}
@@ -20,7 +21,7 @@ use Rattle.access.specs.Memory.{listedIn}
 use Rattle.loading.specs.Loaded.{accessAfter}
 use Rattle.manager.specs.Calls.{BoardCall, ListCall}
 use Rattle.manager.proofs.EachCall.{board-call, list-state}
-use Rattle.traces.specs.Trace.{Memories, started, boardStep, listStep, beforeOf, afterOf, Meets, done, step, Loaded}
+use Rattle.traces.specs.Trace.{Memories, started, boardStep, listStep, beforeOf, afterOf, Meets, done, step, Loads, Loaded}
 use Rattle.traces.specs.Statement.{CodeNoninterference}
 use Rattle.traces.proofs.Theorem.{of-the-code}
 
@@ -45,19 +46,21 @@ pack-back = board-back (descriptionIn packBytes)
 
 -- the list call on its board
 list-taken : ListCall (described packBytes) zeros packList (accessAfter (described packBytes) zeros packList) Accepted
-unfolding firstOf anyOf allOf placeOf tableOf nothingListed bodySize fieldGood noItem itemIn fieldSize itemsFrom itemsIn listsHost listsProcessor repeats otherClass isFull itemTable withItem itemsTable descriptionTable boardVerdict withItems descriptionIn markIn rowIn classIn sharedCluster sharedIn homeIn shareWord boardOf described boardHost activeHost rowOf onBoard partsFrom namedIn entryTable entriesTable listTable verdictOf listedIn
+unfolding firstOf anyOf allOf placeOf tableOf nothingListed bodySize fieldGood noItem itemIn fieldSize itemsFrom itemsIn listsHost listsProcessor repeats otherClass isFull itemTable withItem itemsTable descriptionTable boardVerdict withItems descriptionIn markIn rowIn classIn sharedCluster sharedIn homeIn shareWord boardOf described boardHost activeHost rowOf onBoard partsFrom namedIn entryTable inTurn contentTable listTable verdictOf listedIn
 list-taken = record { verdict = refl; memory = refl; state = list-state (described packBytes) zeros packList }
 
 pub pack-loaded : Loaded (described packBytes) packList listed-memories
-unfolding Meets beforeOf afterOf
+unfolding Meets beforeOf afterOf Loads
 pack-loaded =
     record {
       earlier = boardStep packBytes started described-memories Accepted ∷ [];
-      before = described-memories;
+      last = listStep packList described-memories listed-memories Accepted;
       trace =
           step {x = boardStep packBytes started described-memories Accepted} refl (pack-taken, refl, refl)
           (step {x = listStep packList described-memories listed-memories Accepted} refl
           (subst⁻¹ (λ (b : Board). ListCall b zeros packList (accessAfter (described packBytes) zeros packList) Accepted) pack-back list-taken, refl, refl) done);
+      takes = (refl, refl);
+      left = refl;
       in-force = pack-back;
     }
 

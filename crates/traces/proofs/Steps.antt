@@ -8,14 +8,14 @@ use lib.Seq.{take-append-seam}
 use Rattle.rules.specs.declared.Report.{Report}
 use Rattle.rules.specs.Answer.{reportOf}
 use Rattle.rules.specs.State.{Setup, Records, State, stored}
-use Rattle.rules.specs.Call.{Offer, board, list, afterMessage, Answer, answerTo, Lent, queryOf, offer, message, next}
+use Rattle.rules.specs.Call.{Offer, board, list, block, afterMessage, Answer, answerTo, Lent, queryOf, offer, message, next}
 use Rattle.rules.specs.Sequence.{run}
 use Rattle.noninterference.specs.Statement.{picked, answers}
 use Rattle.access.specs.Memory.{setupIn}
 use Rattle.records.specs.Memory.{stateIn, kept}
 use Rattle.board.specs.Memory.{boardIn}
-use Rattle.manager.specs.Calls.{BoardCall, ListCall, MessageCall}
-use Rattle.traces.specs.Trace.{Memories, Step, boardStep, listStep, messageStep, beforeOf, afterOf, callOf, Meets, Trace, done, step, endOf, callsOf}
+use Rattle.manager.specs.Calls.{BlockCall, BoardCall, ListCall, MessageCall}
+use Rattle.traces.specs.Trace.{Memories, Step, boardStep, listStep, blockStep, messageStep, beforeOf, afterOf, callOf, Meets, Trace, done, step, endOf, callsOf}
 use Rattle.traces.specs.Statement.{given}
 use Rattle.traces.proofs.Kept.{answer-kept, message-kept, offer-kept}
 
@@ -38,11 +38,20 @@ module _ (s : State) (before after : Memories) (holds : Holds before s) where
       offer-holds (board bytes)
       (ap₂ (stateIn (boardIn (after .board))) access records ∙ meets .state (before .records))
 
+  -- an offer that gets the access memory leaves the board memory and the records
+  access-holds : (o : Offer) → after .board ≡ before .board → after .records ≡ before .records
+      → stateIn (boardIn (before .board)) (after .access) (before .records) ≡ kept (next (stateIn (boardIn (before .board)) (before .access) (before .records)) (offer o))
+      → Holds after (next s (offer o))
+  access-holds o same records left =
+      offer-holds o (ap₂ (λ (l m : List ℕ). stateIn (boardIn l) (after .access) m) same records ∙ left)
+
   list-holds : (bytes : List ℕ) {v : _} → ListCall (boardIn (before .board)) (before .access) bytes (after .access) v
       → after .board ≡ before .board → after .records ≡ before .records → Holds after (next s (offer (list bytes)))
-  list-holds bytes meets same records =
-      offer-holds (list bytes)
-      (ap₂ (λ (l m : List ℕ). stateIn (boardIn l) (after .access) m) same records ∙ meets .state (before .records))
+  list-holds bytes meets same records = access-holds (list bytes) same records (meets .state (before .records))
+
+  block-holds : (major minor : ℕ) (bytes : List ℕ) {r : _} → BlockCall (boardIn (before .board)) (before .access) major minor bytes (after .access) r
+      → after .board ≡ before .board → after .records ≡ before .records → Holds after (next s (offer (block major minor bytes)))
+  block-holds major minor bytes meets same records = access-holds (block major minor bytes) same records (meets .state (before .records))
 
   module _ (lent : Lent) {report : Report} {held : List ℕ}
       (meets : MessageCall (boardIn (before .board)) (before .access) (before .records) lent (after .records) held report) where
@@ -68,6 +77,8 @@ pub step-holds : (x : Step) (s : State) → Meets x → Holds (beforeOf x) s →
 unfolding Meets beforeOf afterOf callOf
 step-holds (boardStep bytes before after verdict) s meets holds = board-holds s before after holds bytes (meets .0) (meets .1) (meets .2)
 step-holds (listStep bytes before after verdict) s meets holds = list-holds s before after holds bytes (meets .0) (meets .1) (meets .2)
+step-holds (blockStep major minor bytes before after report) s meets holds =
+    block-holds s before after holds major minor bytes (meets .0) (meets .1) (meets .2)
 step-holds (messageStep lent before after report held) s meets holds =
     message-holds s before after holds lent (meets .0) (meets .1) (meets .2)
 
@@ -92,6 +103,7 @@ module _ (setup : Setup) (chosen : List ℕ) where
   unfolding given answers callOf Meets beforeOf
   given-more (boardStep bytes before after verdict) xs s meets holds rest = rest
   given-more (listStep bytes before after verdict) xs s meets holds rest = rest
+  given-more (blockStep major minor bytes before after report) xs s meets holds rest = rest
   given-more (messageStep lent before after report held) xs s meets holds rest =
       ap₂ (λ (a : Answer) (later : List Answer). cond (picked setup chosen (queryOf lent)) (a ∷ later) later)
       (answer-told s before after holds lent (meets .0))

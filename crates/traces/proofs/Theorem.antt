@@ -8,30 +8,32 @@ use mathlib.Core.Logic.{⊎-elim}
 use lib.ListN.{replicate}
 use lib.Dec.{eqb}
 use Rattle.rules.specs.declared.Report.{Report}
+use Rattle.rules.specs.declared.Verdict.{Verdict}
 use Rattle.rules.specs.declared.Verdict.the-variants.{Accepted}
 use Rattle.rules.specs.Table.{anyOf, allOf}
 use Rattle.rules.specs.Board.{Board, rowOf}
 use Rattle.rules.specs.Description.{descriptionIn, boardOf, described, ours, Good}
 use Rattle.rules.specs.Verdict.{accepted}
-use Rattle.rules.specs.AccessList.{parts, namedIn, verdictOf}
+use Rattle.rules.specs.Substructure.{namedIn}
+use Rattle.rules.specs.AccessList.{parts, verdictOf}
+use Rattle.rules.specs.Block.{listPart}
 use Rattle.rules.specs.Outcome.{carriedOut}
 use Rattle.rules.specs.State.{listed, State, fresh, recordOf, stored}
-use Rattle.rules.specs.Call.{list, verdictTo, taken, afterOffer, afterMessage, Answer, answerTo, Lent, queryOf, Call, offer, message, next}
+use Rattle.rules.specs.Call.{Offer, list, block, verdictTo, taken, afterOffer, afterMessage, Answer, answerTo, Lent, queryOf, Call, offer, message, next}
 use Rattle.rules.specs.Sequence.{run, freeOrPermitted}
 use Rattle.rules.proofs.Tests.{decide, cond-true}
-use Rattle.rules.proofs.Sound.{offer-kept as kept-by-offer, first-accepted}
-use Rattle.noninterference.specs.Statement.{clustersWhole, answers, Noninterference, boardLeft}
+use Rattle.rules.proofs.Sound.{offer-kept as kept-by-offer, first-accepted, block-as-list}
+use Rattle.noninterference.specs.Statement.{clustersWhole, loads, listOf, answers, Noninterference, boardLeft}
 use Rattle.noninterference.proofs.Theorem.{left-sound, loaded-on, listed-clusters, named-all, no-trace}
 use Rattle.board.specs.Memory.{boardIn}
 use Rattle.boards.proofs.Started.{start-read}
 use Rattle.access.specs.Memory.{someList, setupIn, keptSetup}
-use Rattle.loading.proofs.Offers.{verdict-told}
+use Rattle.loading.proofs.Offers.{verdict-told, block-told}
 use Rattle.records.specs.Memory.{recordAt, recordsIn, stateIn, kept}
 use Rattle.records.proofs.LentMemory.{zeros-fresh}
-use Rattle.manager.specs.Calls.{ListCall}
-use Rattle.traces.specs.Trace.{Memories, started, Step, listStep, messageStep, beforeOf, afterOf, callOf, Meets, Trace, step, endOf, callsOf, Loaded}
+use Rattle.traces.specs.Trace.{Memories, started, Step, boardStep, listStep, blockStep, messageStep, beforeOf, afterOf, callOf, Meets, Trace, step, endOf, callsOf, Loads, Loaded}
 use Rattle.traces.specs.Statement.{setupOf, given, OfTheCode, OnEveryDescription}
-use Rattle.traces.proofs.Kept.{record-kept, verdict-kept}
+use Rattle.traces.proofs.Kept.{record-kept, verdict-kept, block-kept}
 use Rattle.traces.proofs.Steps.{Holds, held-by, answer-told, step-holds, trace-holds, trace-given, trace-first, trace-then}
 
 -- what a fresh manager's memories hold
@@ -55,18 +57,6 @@ words-at m s p holds =
 
 -- ---- memories in which a list has just been accepted
 
--- the last step: the state before it accepts the list, and so is fresh
-module _ (bytes : List ℕ) (before m : Memories) (s : State) (holds : Holds before s)
-    (meets : ListCall (boardIn (before .board)) (before .access) bytes (m .access) Accepted) where
-  accepts : accepted (verdictTo s (list bytes)) ≡ true
-  unfolding accepted stateIn
-  accepts =
-      ap accepted
-      (sym (verdict-kept s (list bytes))
-      ∙ ap (λ (t : State). verdictTo t (list bytes)) (sym holds)
-      ∙ verdict-told (boardIn (before .board)) (before .access) bytes (recordsIn (before .records))
-      ∙ sym (meets .verdict))
-
 -- memories that hold the state which the list leaves on a fresh and good board
 pub record Begun (b : Board) (bytes : List ℕ) (m : Memories) : Type 0 where
   pub on-board : Good b
@@ -86,16 +76,12 @@ list-board : (s : State) (bytes : List ℕ) → afterOffer s (list bytes) .setup
 unfolding afterOffer taken
 list-board s bytes = ⊎-elim (λ t. rw t) (λ f. rw f) (decide (accepted (verdictTo s (list bytes))))
 
-begun-from : (bytes : List ℕ) (earlier : List Step) (before m : Memories)
-    → Trace started earlier → Trace (endOf started earlier) (listStep bytes before m Accepted ∷ []) → Begun (boardIn (m .board)) bytes m
-unfolding Meets beforeOf afterOf endOf callsOf callOf run next
-begun-from bytes earlier before m first (step starts meets rest) =
-    let calls = callsOf earlier in
+-- where these calls leave a state that accepts the list, and the memories hold what it leaves
+begun-by : (calls : List Call) (bytes : List ℕ) (m : Memories) → accepted (verdictTo (run (fresh ours) calls) (list bytes)) ≡ true
+    → Holds m (afterOffer (run (fresh ours) calls) (list bytes)) → Begun (boardIn (m .board)) bytes m
+begun-by calls bytes m taken after =
     let s = run (fresh ours) calls in
-    let holds : Holds before s = held-by s starts (trace-holds first (fresh ours) started-hold) in
-    let taken = accepts bytes before m s holds (meets .0) in
     let was : s ≡ fresh (boardLeft ours calls) = no-trace calls (first-accepted s (list bytes) taken) in
-    let after = step-holds (listStep bytes before m Accepted) s meets holds in
     let in-force : boardIn (m .board) ≡ s .setup .board = board-held m (afterOffer s (list bytes)) after ∙ list-board s bytes in
     let is : s ≡ fresh (boardIn (m .board)) =
     was ∙ ap fresh (sym (in-force ∙ ap (λ (t : State). t .setup .board) was ∙ fresh-board (boardLeft ours calls)))
@@ -106,13 +92,50 @@ begun-from bytes earlier before m first (step starts meets rest) =
       holds = after ∙ ap (λ (t : State). kept (afterOffer t (list bytes))) is;
     }
 
+-- what a step is told of its offer is what the rules tell
+module _ (before : Memories) (s : State) (holds : Holds before s) {told : Verdict} (o : Offer) where
+  told-accepted : verdictTo (stateIn (boardIn (before .board)) (before .access) (before .records)) o ≡ told → told ≡ Accepted → accepted (verdictTo s o) ≡ true
+  unfolding accepted
+  told-accepted by-memory ok =
+      ap accepted (sym (verdict-kept s o) ∙ ap (λ (t : State). verdictTo t o) (sym holds) ∙ by-memory ∙ ok)
+
+-- the last step accepted the list, alone or in a block
+begun-step : (x : Step) (bytes : List ℕ) (calls : List Call) → Loads x bytes → Meets x → Holds (beforeOf x) (run (fresh ours) calls)
+    → Begun (boardIn (afterOf x .board)) bytes (afterOf x)
+unfolding Loads Meets beforeOf afterOf stateIn callOf next
+begun-step (boardStep bytes before after verdict) taken calls none meets holds = absurd none
+begun-step (messageStep lent before after report held) taken calls none meets holds = absurd none
+begun-step (listStep bytes before after verdict) taken calls takes meets holds =
+    let s = run (fresh ours) calls in
+    let ok =
+    told-accepted before s holds (list bytes)
+    (verdict-told (boardIn (before .board)) (before .access) (recordsIn (before .records)) bytes) (sym (meets .0 .verdict) ∙ takes .0)
+    in
+    subst (λ (l : List ℕ). Begun (boardIn (after .board)) l after) (takes .1)
+    (begun-by calls bytes after ok (step-holds (listStep bytes before after verdict) s meets holds))
+begun-step (blockStep major minor bytes before after report) taken calls takes meets holds =
+    let s = run (fresh ours) calls in
+    let ok =
+    told-accepted before s holds (block major minor bytes)
+    (block-told (boardIn (before .board)) (before .access) (recordsIn (before .records)) major minor bytes) (sym (meets .0 .verdict) ∙ takes .0)
+    in
+    subst (λ (l : List ℕ). Begun (boardIn (after .board)) l after) (takes .1)
+    (begun-by calls (listPart bytes) after (block-as-list s major minor bytes ok .list-accepted)
+    (step-holds (blockStep major minor bytes before after report) s meets holds ∙ block-kept s major minor bytes ok))
+
+begun-last : (x : Step) (bytes : List ℕ) (earlier : List Step) → Loads x bytes → Trace started earlier → Trace (endOf started earlier) (x ∷ [])
+    → Begun (boardIn (afterOf x .board)) bytes (afterOf x)
+begun-last x bytes earlier takes first (step starts meets rest) =
+    begun-step x bytes (callsOf earlier) takes meets (held-by (run (fresh ours) (callsOf earlier)) starts (trace-holds first (fresh ours) started-hold))
+
 begun : {b : Board} {bytes : List ℕ} {m : Memories} → Loaded b bytes m → Begun b bytes m
 begun {b} {bytes} {m} loaded =
-    let last = listStep bytes (loaded .before) m Accepted ∷ [] in
+    let last = loaded .last ∷ [] in
     subst (λ (c : Board). Begun c bytes m) (loaded .in-force)
-    (begun-from bytes (loaded .earlier) (loaded .before) m
+    (subst (λ (n : Memories). Begun (boardIn (n .board)) bytes n) (loaded .left)
+    (begun-last (loaded .last) bytes (loaded .earlier) (loaded .takes)
     (trace-first (loaded .earlier) last (loaded .trace))
-    (trace-then (loaded .earlier) last (loaded .trace)))
+    (trace-then (loaded .earlier) last (loaded .trace))))
 
 -- once a list was accepted the board stays
 board-stays : (cs : List Call) (s : State) → listed (s .setup .source) ≡ true → run s cs .setup .board ≡ s .setup .board
@@ -138,7 +161,8 @@ module _ (b : Board) (bytes chosen : List ℕ) (named : allOf (namedIn (parts by
     start-board = list-board (fresh b) bytes ∙ fresh-board b
 
     by-rules : Noninterference start chosen
-    by-rules = loaded-on b bytes chosen (begun loaded .good) (begun loaded .on-board) named whole
+    unfolding loads listOf
+    by-rules = loaded-on b (list bytes) chosen (begun loaded .good) (begun loaded .on-board) named whole
 
     -- a chosen processor's record words are its record by the rules
     module _ {steps : List Step} (trace : Trace m steps) where

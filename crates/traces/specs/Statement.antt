@@ -11,16 +11,17 @@ use Rattle.rules.specs.Table.{anyOf, allOf}
 use Rattle.rules.specs.Board.{Board, rowOf}
 use Rattle.rules.specs.Verdict.{accepted}
 use Rattle.rules.specs.Description.{descriptionIn, described}
-use Rattle.rules.specs.AccessList.{parts, namedIn, verdictOf}
+use Rattle.rules.specs.Substructure.{namedIn}
+use Rattle.rules.specs.AccessList.{parts, verdictOf}
 use Rattle.rules.specs.Outcome.{carriedOut}
 use Rattle.rules.specs.State.{Setup, fresh}
 use Rattle.rules.specs.Call.{list, afterOffer, Answer, Lent, queryOf}
 use Rattle.rules.specs.Sequence.{freeOrPermitted}
 use Rattle.noninterference.specs.Statement.{clustersWhole, clustersListed, insider, aboutChosen, picked, picks}
 use Rattle.records.specs.Memory.{recordAt}
-use Rattle.traces.specs.Trace.{Memories, Step, boardStep, listStep, messageStep, Trace, endOf, callsOf, Loaded}
+use Rattle.traces.specs.Trace.{Memories, Step, boardStep, listStep, blockStep, messageStep, Trace, endOf, callsOf, Loaded}
 
--- what the list sets on a board: who is permitted for which processor
+-- what the list sets on a board, alone or in a block: who is permitted for which processor
 abbrev pub setupOf : Board → List ℕ → Setup
 setupOf b bytes = afterOffer (fresh b) (list bytes) .setup
 
@@ -29,13 +30,14 @@ unfoldable pub given : Setup → List ℕ → List Step → List Answer
 given setup chosen [] = []
 given setup chosen (boardStep bytes before after verdict ∷ steps) = given setup chosen steps
 given setup chosen (listStep bytes before after verdict ∷ steps) = given setup chosen steps
+given setup chosen (blockStep major minor bytes before after report ∷ steps) = given setup chosen steps
 given setup chosen (messageStep lent before after report held ∷ steps) =
     cond (picked setup chosen (queryOf lent))
     (record { report = report; bytes = take (report .written) held } ∷ given setup chosen steps)
     (given setup chosen steps)
 
 -- demand 3, for a board in force, an accepted list and the chosen processors, over all traces that go on from memories in which it has just been
--- accepted; boards and lists that are offered from then on are among their steps
+-- accepted, alone or in a block; boards, lists and blocks that are offered from then on are among their steps
 pub record CodeNoninterference (b : Board) (bytes chosen : List ℕ) : Type 0 where
   -- traces that agree in their picks give the picked messages the same reports and written bytes
   pub same-answers :

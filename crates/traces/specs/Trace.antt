@@ -4,14 +4,16 @@ use Prim.Native.Nat.{ℕ}
 use mathlib.Core.Path.{_≡_}
 use mathlib.Core.List.{List, [], _∷_, _++_}
 use lib.ListN.{replicate}
+use Rattle.rules.specs.declared.BlockReport.{BlockReport}
 use Rattle.rules.specs.declared.Report.{Report}
 use Rattle.rules.specs.declared.Verdict.{Verdict}
 use Rattle.rules.specs.declared.Verdict.the-variants.{Accepted}
 use Rattle.rules.specs.Board.{Board}
 use Rattle.rules.specs.Description.{ours}
-use Rattle.rules.specs.Call.{board, list, Lent, Call, offer, message}
+use Rattle.rules.specs.Block.{listPart}
+use Rattle.rules.specs.Call.{board, list, block, Lent, Call, offer, message}
 use Rattle.board.specs.Memory.{boardIn, boardBytes}
-use Rattle.manager.specs.Calls.{BoardCall, ListCall, MessageCall}
+use Rattle.manager.specs.Calls.{BlockCall, BoardCall, ListCall, MessageCall}
 
 -- the board memory, the access memory and the record memory
 pub record Memories : Type 0 where
@@ -23,25 +25,29 @@ pub record Memories : Type 0 where
 abbrev pub started : Memories
 started = record { board = boardBytes ours; access = replicate 129 0; records = replicate 160 0 }
 
--- one call: what it was lent, the memories before and after it, and what it gave: a verdict, or a report and what the buffer holds
+-- one call: what it was lent, the memories before and after it, and what it gave: a verdict, a block's report, or a report and what the buffer holds
 pub data Step : Type 0 where
   boardStep : List ℕ → Memories → Memories → Verdict → Step
   listStep : List ℕ → Memories → Memories → Verdict → Step
+  blockStep : ℕ → ℕ → List ℕ → Memories → Memories → BlockReport → Step
   messageStep : Lent → Memories → Memories → Report → List ℕ → Step
 
 unfoldable pub beforeOf : Step → Memories
 beforeOf (boardStep bytes before after verdict) = before
 beforeOf (listStep bytes before after verdict) = before
+beforeOf (blockStep major minor bytes before after report) = before
 beforeOf (messageStep lent before after report held) = before
 
 unfoldable pub afterOf : Step → Memories
 afterOf (boardStep bytes before after verdict) = after
 afterOf (listStep bytes before after verdict) = after
+afterOf (blockStep major minor bytes before after report) = after
 afterOf (messageStep lent before after report held) = after
 
 unfoldable pub callOf : Step → Call
 callOf (boardStep bytes before after verdict) = offer (board bytes)
 callOf (listStep bytes before after verdict) = offer (list bytes)
+callOf (blockStep major minor bytes before after report) = offer (block major minor bytes)
 callOf (messageStep lent before after report held) = message lent
 
 -- a step meets the contract of its call, and what the call does not get, or only borrows, stays
@@ -50,6 +56,9 @@ Meets (boardStep bytes before after verdict) =
     BoardCall (before .board) (before .access) bytes (after .board) verdict × (after .access ≡ before .access) × (after .records ≡ before .records)
 Meets (listStep bytes before after verdict) =
     ListCall (boardIn (before .board)) (before .access) bytes (after .access) verdict
+    × (after .board ≡ before .board) × (after .records ≡ before .records)
+Meets (blockStep major minor bytes before after report) =
+    BlockCall (boardIn (before .board)) (before .access) major minor bytes (after .access) report
     × (after .board ≡ before .board) × (after .records ≡ before .records)
 Meets (messageStep lent before after report held) =
     MessageCall (boardIn (before .board)) (before .access) (before .records) lent (after .records) held report
@@ -69,10 +78,19 @@ unfoldable pub callsOf : List Step → List Call
 callsOf [] = []
 callsOf (x ∷ xs) = callOf x ∷ callsOf xs
 
--- memories in which a list has just been accepted on board b: a trace from a fresh manager's leads there, of which the last step accepted that
--- list, and b is in force
+-- a step that accepted a list: the lone list, or a block with that list (document 02, L1)
+unfoldable pub Loads : Step → List ℕ → Type 0
+Loads (boardStep bytes before after verdict) taken = ⊥
+Loads (listStep bytes before after verdict) taken = (verdict ≡ Accepted) × (bytes ≡ taken)
+Loads (blockStep major minor bytes before after report) taken = (report .verdict ≡ Accepted) × (listPart bytes ≡ taken)
+Loads (messageStep lent before after report held) taken = ⊥
+
+-- memories in which a list has just been accepted on board b, alone or in a block: a trace from a fresh manager's leads there, of which the last step
+-- accepted that list, and b is in force
 pub record Loaded (b : Board) (bytes : List ℕ) (m : Memories) : Type 0 where
   pub earlier : List Step
-  pub before : Memories
-  pub trace : Trace started (earlier ++ (listStep bytes before m Accepted ∷ []))
+  pub last : Step
+  pub trace : Trace started (earlier ++ (last ∷ []))
+  pub takes : Loads last bytes
+  pub left : afterOf last ≡ m
   pub in-force : boardIn (m .board) ≡ b

@@ -1,22 +1,21 @@
--- `entries::named_before` meets its contract. The loop's invariant: none of the entries passed names the processor, so the answer is
+-- `entries::named_before` meets its contract. The loop's invariant: none of the entries passed has the number, so the answer is
 -- that of the entries that are left. Assumes nothing.
-use Prim.Native.Nat.{_≤_, _-_}
+use Prim.Native.Nat.{_*_, _≤_, _-_}
 use mathlib.Core.Path.{_≡_, refl, sym, _∙_}
 use native.Mathlib.Omega.{arith}
 use borrow.Author.Needs.{needs}
 use borrow.Author.Tests.{eq-eqb, ne-eqb}
-use Rattle.rules.specs.Table.{anyOf}
-use Rattle.entries.specs.Entries.{partsBefore, writtenIn}
-use Rattle.entries.proofs.Faults.{written-newest}
+use Rattle.entries.specs.Entries.{writtenBefore}
+use Rattle.entries.proofs.Faults.{written-newest, place-small}
 use Rattle.entries.proofs.named_before.Statement.{statement}
 use Rattle.entries.proofs.named_before.Tie as tie
 
 abbrev Inv-loop : tie.InvT-loop
-Inv-loop list e processor i₀ i =
-    (i ≤ 255) × (writtenIn (partsBefore list e) processor ≡ writtenIn (partsBefore list i) processor)
+Inv-loop bytes width e number i₀ i =
+    (i ≤ 255) × (writtenBefore width bytes e number ≡ writtenBefore width bytes i number)
 
 abbrev μ-loop : tie.MeasureT-loop
-μ-loop list e processor i₀ i = i
+μ-loop bytes width e number i₀ i = i
 
 loop-holds : tie.Need-loop-holds Inv-loop μ-loop
 loop-holds c = (omega arith, refl)
@@ -25,10 +24,16 @@ sub-i : tie.Need-sub-i Inv-loop μ-loop
 sub-i c = omega arith
 
 mul-byte-at : tie.Need-mul-byte-at Inv-loop μ-loop
-mul-byte-at c = omega arith
+mul-byte-at c =
+    let given = c .before .before .before .args in
+    let small : given .width * (c .before .loop .i - 1) ≤ 65025 = place-small (given .width) (c .before .loop .i - 1) (omega arith) (omega arith) in
+    omega arith
 
 add-byte-at : tie.Need-add-byte-at Inv-loop μ-loop
-add-byte-at c = omega arith
+add-byte-at c =
+    let given = c .before .before .before .args in
+    let small : given .width * (c .before .loop .i - 1) ≤ 65025 = place-small (given .width) (c .before .loop .i - 1) (omega arith) (omega arith) in
+    omega arith
 
 byte-at-requires : tie.Need-byte-at-requires Inv-loop μ-loop
 byte-at-requires c κs = search needs
@@ -36,11 +41,10 @@ byte-at-requires c κs = search needs
 returns : tie.Need-returns Inv-loop μ-loop
 returns c =
     let i = c .before .before .before .loop .i in
-    let list = c .before .before .before .before .before .args .list .now in
-    let p = c .before .before .before .before .before .args .processor in
+    let given = c .before .before .before .before .before .args in
     sym
     (c .before .before .before .loop .inv .1
-    ∙ written-newest list i (i - 1) p (omega arith)
+    ∙ written-newest (given .width) (given .bytes .now) i (i - 1) (given .number) (omega arith)
     ∙ rw (eq-eqb _ _ (sym (c .before .byte-at .ensures) ∙ c .if1 .taken)))
 
 loop-less : tie.Need-loop-less Inv-loop μ-loop
@@ -49,16 +53,15 @@ loop-less c = omega arith
 loop-again : tie.Need-loop-again Inv-loop μ-loop
 loop-again c =
     let i = c .before .before .before .loop .i in
-    let list = c .before .before .before .before .before .args .list .now in
-    let p = c .before .before .before .before .before .args .processor in (
+    let given = c .before .before .before .before .before .args in (
       omega arith,
       c .before .before .before .loop .inv .1
-          ∙ written-newest list i (i - 1) p (omega arith)
+          ∙ written-newest (given .width) (given .bytes .now) i (i - 1) (given .number) (omega arith)
           ∙ rw (ne-eqb _ _ (λ e. c .if1 .left (c .before .byte-at .ensures ∙ e))),
     )
 
 returns-2 : tie.Need-returns-2 Inv-loop μ-loop
-unfolding writtenIn partsBefore anyOf
+unfolding writtenBefore
 returns-2 c =
     let none : c .before .loop .i ≡ 0 = omega arith in sym (c .before .loop .inv .1 ∙ rw none)
 

@@ -10,10 +10,11 @@ use Rattle.rules.specs.Table.{firstOf}
 use Rattle.rules.specs.Bytes.{u16At}
 use Rattle.board.specs.Memory.{boardIn}
 use Rattle.rules.proofs.Tests.{cond-true, cond-false}
-use Rattle.rules.specs.AccessList.{partsFrom, entriesTable, listTable, verdictOf}
-use Rattle.entries.specs.Entries.{partsBefore}
+use Rattle.rules.specs.AccessList.{entryTable, contentTable, listTable, verdictOf}
+use Rattle.entries.specs.Entries.{partsBefore, verdictFrom}
+use Rattle.entries.proofs.Faults.{from-last}
 use Rattle.rules.proofs.Verdicts.{no-fault}
-use Rattle.lists.specs.Judged.{badFrom, verdictFrom}
+use Rattle.lists.specs.Judged.{badFrom}
 use Rattle.lists.proofs.Verdicts.{part-is, secondary-bad, secondary-good, secondaries-good, turn-unused, turn-bad, turn-good}
 use Rattle.lists.proofs.judge.Statement.{statement}
 use Rattle.lists.proofs.judge.Tie as tie
@@ -25,7 +26,7 @@ abbrev μ-loop : tie.MeasureT-loop
 μ-loop board listed list e part processor k₀ k = 3 - k
 
 abbrev Inv-entries : tie.InvT-entries
-Inv-entries board listed list e₀ e = (e ≤ 32) × (verdictOf (boardIn board) listed list ≡ verdictFrom (boardIn board) list e)
+Inv-entries board listed list e₀ e = (e ≤ 32) × (verdictOf (boardIn board) listed list ≡ verdictFrom (entryTable (boardIn board)) 9 list e)
 
 abbrev μ-entries : tie.MeasureT-entries
 μ-entries board listed list e₀ e = 32 - e
@@ -42,7 +43,7 @@ u16-at-requires : tie.Need-u16-at-requires Inv-loop μ-loop Inv-entries μ-entri
 u16-at-requires c κs = search needs
 
 returns-3 : tie.Need-returns-3 Inv-loop μ-loop Inv-entries μ-entries
-unfolding verdictOf listTable firstOf
+unfolding verdictOf contentTable listTable firstOf
 returns-3 c =
     rw (
       c .before .before .before .if1 .left,
@@ -54,7 +55,7 @@ u16-at-requires-2 : tie.Need-u16-at-requires-2 Inv-loop μ-loop Inv-entries μ-e
 u16-at-requires-2 c κs = search needs
 
 returns-4 : tie.Need-returns-4 Inv-loop μ-loop Inv-entries μ-entries
-unfolding verdictOf listTable firstOf
+unfolding verdictOf contentTable listTable firstOf
 returns-4 c =
     rw (
       c .before .before .before .before .before .if1 .left,
@@ -64,7 +65,7 @@ returns-4 c =
     )
 
 entries-holds : tie.Need-entries-holds Inv-loop μ-loop Inv-entries μ-entries
-unfolding verdictOf listTable firstOf verdictFrom partsBefore
+unfolding verdictOf contentTable listTable firstOf verdictFrom partsBefore
 entries-holds c =
     let list = c .before .before .before .before .before .before .before .args .list .now in (
       omega arith,
@@ -182,8 +183,9 @@ entries-again-2 c =
     )
 
 returns-5 : tie.Need-returns-5 Inv-loop μ-loop Inv-entries μ-entries
-unfolding verdictFrom partsFrom entriesTable firstOf
-returns-5 c = let all : c .before .entries .e ≡ 32 = c .if5 .taken in sym (c .before .entries .inv .1 ∙ rw all)
+returns-5 c =
+    let list = c .before .before .before .before .before .before .before .before .before .args .list .now in
+    sym (c .before .entries .inv .1 ∙ from-last _ 9 list _ (c .if5 .taken))
 
 returns-6 : tie.Need-returns-6 Inv-loop μ-loop Inv-entries μ-entries
 returns-6 c =

@@ -1,6 +1,10 @@
 -- `loading::offer_list` meets its contract: a refused list leaves the memory, an accepted one is loaded. Assumes nothing.
-use mathlib.Core.Path.{_∙_}
-use Rattle.loading.proofs.Words.{refused, taken}
+use mathlib.Core.Path.{sym, _∙_}
+use mathlib.Core.Bool.{Bool}
+use Rattle.rules.specs.AccessList.{verdictOf}
+use Rattle.loading.specs.Loaded.{inForce, accessAfter}
+use Rattle.board.specs.Memory.{boardIn}
+use Rattle.loading.proofs.Words.{refused, taken, verdict-read}
 use Rattle.rules.proofs.Verdicts.{no-fault}
 use Rattle.lists.proofs.Verdicts.{accepted-length}
 use borrow.Author.Needs.{needs}
@@ -17,10 +21,12 @@ enum-told : tie.Need-enum-told
 enum-told c = search needs
 
 returns : tie.Need-returns
+unfolding accessAfter
 returns c =
     let given = c .before .before .before .before .before .before .args in
-    refused _ (given .access .now) (given .list .now) (c .before .judge .ensures) (c .before .before .is-listed .ensures)
-    (λ good. no-fault (rw good at (c .match .keys2)))
+    let m = given .access .now in
+    let told = verdict-read (λ (x : Bool). verdictOf (boardIn (given .board .now)) x (given .list .now)) m (c .before .judge .ensures) (c .before .before .is-listed .ensures) in
+    (told, refused (inForce (boardIn (given .board .now)) (given .list .now)) m told (λ good. no-fault (rw good at (c .match .keys2))))
 
 load-requires : tie.Need-load-requires
 load-requires c κs =
@@ -28,12 +34,15 @@ load-requires c κs =
     (search needs, accepted-length _ _ list (c .before .before .judge .ensures) (c .enum-told .given .1))
 
 returns-2 : tie.Need-returns-2
+unfolding accessAfter
 returns-2 c =
     let given = c .before .before .before .before .before .before .before .before .args in
-    let after =
-    taken _ (given .access .now) (given .list .now) (c .before .before .before .judge .ensures)
-    (c .before .before .before .before .is-listed .ensures) (c .before .enum-told .given .1) in
-    (after .0, c .load .ensures ∙ after .1)
+    let m = given .access .now in
+    let good = c .before .enum-told .given .1 in
+    let told =
+    verdict-read (λ (x : Bool). verdictOf (boardIn (given .board .now)) x (given .list .now)) m (c .before .before .before .judge .ensures) (c .before .before .before .before .is-listed .ensures)
+    in
+    (sym good ∙ told, c .load .ensures ∙ taken (inForce (boardIn (given .board .now)) (given .list .now)) m told good)
 
 pub offer-list-spec : {M : Type 1} → statement M
 offer-list-spec =

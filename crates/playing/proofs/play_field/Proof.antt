@@ -3,76 +3,62 @@ use mathlib.Core.Path.{sym}
 use native.Mathlib.Omega.{arith}
 use lib.Seq.{length-take-le}
 use denote.Ref.{now}
-use Rattle.playing.proofs.ByTag.{list-field, status-field, board-field, message-field}
+use Rattle.playing.proofs.ByTag.{offer-field, status-field, message-field}
 use borrow.Author.Needs.{needs}
 use Rattle.playing.proofs.play_field.Statement.{statement}
 use Rattle.playing.proofs.play_field.Tie as tie
 
-list-line-requires : tie.Need-list-line-requires
-list-line-requires c κs = search needs
+take-words-requires : tie.Need-take-words-requires
+take-words-requires c κs = search needs
+
+cast-t14 : tie.Need-cast-t14
+cast-t14 c = search needs
+
+returns : tie.Need-returns
+returns c =
+    let a = c .before .before .before .before .before .args in
+    let taken = c .take-words .ensures in
+    (omega arith, status-field (a .tag) (a .count) (now (a .body)) (now (a .board)) (now (a .access)) (now (a .records)) (now (a .words)) (now (a .line)) _ _ (c .before .before .if1 .taken) (taken .0) (taken .1 .1))
+
+play-offer-requires : tie.Need-play-offer-requires
+play-offer-requires c κs = search needs
 
 same-length : tie.Need-same-length
 same-length c = search needs
 
-returns : tie.Need-returns
-returns c =
-    let a = c .before .before .before .before .before .before .before .before .before .args in
-    let played = c .before .before .list-line .ensures in
-    (played .prints .short, list-field (a .tag) (a .count) (now (a .body)) (now (a .board)) (now (a .access)) (now (a .records)) (now (a .words)) (now (a .line)) _ _ _ (c .before .before .before .before .before .before .if1 .taken) played)
-
-take-words-requires : tie.Need-take-words-requires
-take-words-requires c κs = search needs
-
-cast-t19 : tie.Need-cast-t19
-cast-t19 c = search needs
-
 returns-2 : tie.Need-returns-2
 returns-2 c =
-    let a = c .before .before .before .before .before .before .args in
-    let taken = c .take-words .ensures in
-    (omega arith, status-field (a .tag) (a .count) (now (a .body)) (now (a .board)) (now (a .access)) (now (a .records)) (now (a .words)) (now (a .line)) _ _ (c .before .before .if2 .taken) (taken .0) (taken .1 .1))
+    let a = c .before .before .before .before .before .before .before .before .before .before .args in
+    let played = c .before .before .play-offer .ensures in
+    (played .short, offer-field (a .tag) (a .count) (now (a .body)) (now (a .board)) (now (a .access)) (now (a .records)) (now (a .words)) (now (a .line)) _ _ _ _ (c .before .before .before .before .before .before .if2 .taken) played)
 
-board-line-requires : tie.Need-board-line-requires
-board-line-requires c κs = search needs
+slice-aggregate-message-line : tie.Need-slice-aggregate-message-line
+slice-aggregate-message-line c =
+    let a = c .before .before .before .before .before .before .before .before .before .before .args in sym (length-take-le (a .count) (now (a .words)) (search needs))
+
+message-line-requires : tie.Need-message-line-requires
+message-line-requires c κs = search needs
 
 same-length-2 : tie.Need-same-length-2
 same-length-2 c = search needs
 
 returns-3 : tie.Need-returns-3
 returns-3 c =
-    let a = c .before .before .before .before .before .before .before .before .before .before .before .args in
-    let played = c .before .before .board-line .ensures in
-    (played .prints .short, board-field (a .tag) (a .count) (now (a .body)) (now (a .board)) (now (a .access)) (now (a .records)) (now (a .words)) (now (a .line)) _ _ _ (c .before .before .before .before .before .before .if3 .taken) played)
-
-slice-aggregate-message-line : tie.Need-slice-aggregate-message-line
-slice-aggregate-message-line c = let a = c .before .before .before .before .before .before .before .before .before .before .before .args in sym (length-take-le (a .count) (now (a .words)) (search needs))
-
-message-line-requires : tie.Need-message-line-requires
-message-line-requires c κs = search needs
-
-same-length-3 : tie.Need-same-length-3
-same-length-3 c = search needs
-
-returns-4 : tie.Need-returns-4
-returns-4 c =
-    let a = c .before .before .before .before .before .before .before .before .before .before .before .before .before .before .before .args in
+    let a = c .before .before .before .before .before .before .before .before .before .before .before .before .before .before .args in
     let played = c .before .before .message-line .ensures in
-    (played .prints .short, message-field (a .tag) (a .count) (now (a .body)) (now (a .board)) (now (a .access)) (now (a .records)) (now (a .words)) (now (a .line)) _ _ _ (c .before .before .before .before .before .before .before .before .before .before .before .before .if1 .left) (c .before .before .before .before .before .before .before .before .before .before .before .if2 .left) (c .before .before .before .before .before .before .before .before .before .before .if3 .left) played)
+    (played .prints .short, message-field (a .tag) (a .count) (now (a .body)) (now (a .board)) (now (a .access)) (now (a .records)) (now (a .words)) (now (a .line)) _ _ _ (c .before .before .before .before .before .before .before .before .before .before .before .if1 .left) (c .before .before .before .before .before .before .before .before .before .before .if2 .left) played)
 
 pub play-field-spec : {M : Type 1} → statement M
 play-field-spec =
     tie.close
     (tie.spec
-    list-line-requires
-    same-length
-    returns
     take-words-requires
-    cast-t19
+    cast-t14
+    returns
+    play-offer-requires
+    same-length
     returns-2
-    board-line-requires
-    same-length-2
-    returns-3
     slice-aggregate-message-line
     message-line-requires
-    same-length-3
-    returns-4)
+    same-length-2
+    returns-3)

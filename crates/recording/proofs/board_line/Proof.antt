@@ -1,4 +1,5 @@
 -- `recording::board_line` meets its contract: the board call, and its line. Assumes nothing.
+use mathlib.Core.Path.{refl}
 use denote.Ref.{now}
 use Rattle.texts.specs.Texts.{boardWord}
 use Rattle.recording.proofs.Messages.{offer-refused, offer-played}
@@ -7,7 +8,7 @@ use Rattle.recording.proofs.board_line.Statement.{statement}
 use Rattle.recording.proofs.board_line.Tie as tie
 
 returns : tie.Need-returns
-returns c = offer-refused _ _ _ _ _ (c .if1 .taken)
+returns c = offer-refused _ _ _ _ _ _ (c .if1 .taken)
 
 offer-board-requires : tie.Need-offer-board-requires
 offer-board-requires c κs = search needs
@@ -22,7 +23,7 @@ returns-2 : tie.Need-returns-2
 returns-2 c =
     let line = now (c .before .before .before .before .before .before .before .before .before .args .line) in
     let call = c .before .before .before .offer-board in
-    offer-played boardWord _ _ _ line _ _ (call .result) _ (c .before .before .before .before .before .before .if1 .left) (call .ensures .verdict) (call .ensures .memory-after)
+    offer-played boardWord _ 0 _ _ line _ _ (call .result) 0 _ (c .before .before .before .before .before .before .if1 .left) (call .ensures .verdict) refl (call .ensures .memory-after)
     (c .before .before .print-board .ensures)
 
 pub board-line-spec : {M : Type 1} → statement M

@@ -1,4 +1,5 @@
 -- `recording::list_line` meets its contract: the list call, and its line. Assumes nothing.
+use mathlib.Core.Path.{refl}
 use denote.Ref.{now}
 use Rattle.texts.specs.Texts.{listWord}
 use Rattle.recording.proofs.Messages.{offer-refused, offer-played}
@@ -7,7 +8,7 @@ use Rattle.recording.proofs.list_line.Statement.{statement}
 use Rattle.recording.proofs.list_line.Tie as tie
 
 returns : tie.Need-returns
-returns c = offer-refused _ _ _ _ _ (c .if1 .taken)
+returns c = offer-refused _ _ _ _ _ _ (c .if1 .taken)
 
 offer-list-requires : tie.Need-offer-list-requires
 offer-list-requires c κs = search needs
@@ -22,7 +23,7 @@ returns-2 : tie.Need-returns-2
 returns-2 c =
     let line = now (c .before .before .before .before .before .before .before .before .before .args .line) in
     let call = c .before .before .before .offer-list in
-    offer-played listWord _ _ _ line _ _ (call .result) _ (c .before .before .before .before .before .before .if1 .left) (call .ensures .verdict) (call .ensures .memory)
+    offer-played listWord _ 0 _ _ line _ _ (call .result) 0 _ (c .before .before .before .before .before .before .if1 .left) (call .ensures .verdict) refl (call .ensures .memory)
     (c .before .before .print-list .ensures)
 
 pub list-line-spec : {M : Type 1} → statement M

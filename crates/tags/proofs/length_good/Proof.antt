@@ -23,14 +23,19 @@ returns-4 c = rw (c .match .keys4)
 
 returns-5 : tie.Need-returns-5
 unfolding lengthGood firstOf
-returns-5 c =
+returns-5 c = rw (c .match .keys5)
+
+returns-6 : tie.Need-returns-6
+unfolding lengthGood firstOf
+returns-6 c =
     let rest = c .match .rest in
     simp (
-      ne-eqb _ 1 (rest .0 .0 .0 .1),
-      ne-eqb _ 2 (rest .0 .0 .1),
-      ne-eqb _ 3 (rest .0 .1),
+      ne-eqb _ 1 (rest .0 .0 .0 .0 .1),
+      ne-eqb _ 2 (rest .0 .0 .0 .1),
+      ne-eqb _ 3 (rest .0 .0 .1),
+      ne-eqb _ 4 (rest .0 .1),
       ne-eqb _ 6 (rest .1),
     )
 
 pub length-good-spec : {M : Type 1} → statement M
-length-good-spec = tie.close (tie.spec returns returns-2 returns-3 returns-4 returns-5)
+length-good-spec = tie.close (tie.spec returns returns-2 returns-3 returns-4 returns-5 returns-6)

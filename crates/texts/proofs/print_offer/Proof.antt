@@ -1,10 +1,14 @@
--- `texts::print_offer` meets its contract: the word, and the verdict's name behind it, or nothing. Assumes nothing.
+-- `texts::print_offer` meets its contract: the word, and the verdict's text behind it, or nothing. Assumes nothing.
 use Prim.Native.Nat.{_≤_}
-use mathlib.Core.Path.{_≡_}
+use mathlib.Core.Path.{_≡_, sym}
 use native.Mathlib.Omega.{arith}
 use lib.ListN.{length}
+use lib.Seq.{length-take-le}
 use borrow.Author.Tests.{lt-leb}
 use denote.Ref.{now}
+use Rattle.rules.specs.Verdict.{verdictNumber}
+use Rattle.verdicts.specs.Names.{verdictLine}
+use Rattle.verdicts.proofs.Lines.{text-short, text-is}
 use Rattle.texts.specs.Texts.{offerLine, hasRoom}
 use Rattle.texts.proofs.Printing.{nothing-printed, put-count, put-over, offer-printed}
 use borrow.Author.Needs.{needs}
@@ -12,27 +16,33 @@ use Rattle.texts.proofs.print_offer.Statement.{statement}
 use Rattle.texts.proofs.print_offer.Tie as tie
 
 returns : tie.Need-returns
-returns c = nothing-printed _ _ (hasRoom (now (c .before .before .before .args .line))) (lt-leb 96 _ (c .if1 .taken))
+returns c =
+    nothing-printed _ _ (hasRoom (now (c .before .before .before .args .line))) (lt-leb 96 _ (c .if1 .taken))
 
-verdict-name-requires : tie.Need-verdict-name-requires
-verdict-name-requires c κs = search needs
+verdict-text-requires : tie.Need-verdict-text-requires
+verdict-text-requires c κs = search needs
+
+slice-aggregate-name : tie.Need-slice-aggregate-name
+slice-aggregate-name c = search needs
 
 put-requires : tie.Need-put-requires
 put-requires c κs = search needs
 
 sub-put : tie.Need-sub-put
 sub-put c =
-    let a = c .before .before .before .before .before .before .before .before .args in
+    let start = c .before .before .before .before .before .before .before .before .before .before in
+    let a = start .args in
     let first = c .before .before .put in
-    let short : length (now (a .word)) ≤ length (now (a .line)) = omega (arith, c .before .before .before .before .before .if1 .left, c .before .before .before .before .before .before .before .before .pre) in
+    let short : length (now (a .word)) ≤ length (now (a .line)) = omega (arith, c .before .before .before .before .before .before .before .if1 .left, start .pre) in
     let here = put-count (now (a .word)) (now (a .line)) short (first .result) (first .ensures .0) in
     omega (arith, short, here, first .kept .0)
 
 part-put-start : tie.Need-part-put-start
 part-put-start c =
-    let a = c .before .before .before .before .before .before .before .before .args in
+    let start = c .before .before .before .before .before .before .before .before .before .before in
+    let a = start .args in
     let first = c .before .before .put in
-    let short : length (now (a .word)) ≤ length (now (a .line)) = omega (arith, c .before .before .before .before .before .if1 .left, c .before .before .before .before .before .before .before .before .pre) in
+    let short : length (now (a .word)) ≤ length (now (a .line)) = omega (arith, c .before .before .before .before .before .before .before .if1 .left, start .pre) in
     let here = put-count (now (a .word)) (now (a .line)) short (first .result) (first .ensures .0) in
     omega (arith, short, here, first .kept .0)
 
@@ -40,18 +50,27 @@ part-put-end : tie.Need-part-put-end
 part-put-end c = search needs
 
 slice-aggregate-put : tie.Need-slice-aggregate-put
-slice-aggregate-put c = search needs
+slice-aggregate-put c =
+    let a = c .before .before .before .before .before .before .before .before .before .before .before .before .args in
+    let text = c .before .before .before .before .before .before .before .before .verdict-text in
+    let eight : length (text .result .bytes) ≡ 8 = search needs in
+    let few : text .result .count ≤ 8 = text-short (verdictLine (verdictNumber (a .verdict)) (a .host)) (text .ensures .0) (text .ensures .1) eight in
+    sym (length-take-le (text .result .count) (text .result .bytes) (omega (arith, few, eight)))
 
 put-requires-2 : tie.Need-put-requires-2
 put-requires-2 c κs = search needs
 
 add-result : tie.Need-add-result
 add-result c =
-    let a = c .before .before .before .before .before .before .before .before .before .before .before .before .before .args in
+    let start = c .before .before .before .before .before .before .before .before .before .before .before .before .before .before .before in
+    let a = start .args in
     let first = c .before .before .before .before .before .before .before .put in
-    let short : length (now (a .word)) ≤ length (now (a .line)) = omega (arith, c .before .before .before .before .before .before .before .before .before .before .if1 .left, c .before .before .before .before .before .before .before .before .before .before .before .before .before .pre) in
+    let short : length (now (a .word)) ≤ length (now (a .line)) = omega (arith, c .before .before .before .before .before .before .before .before .before .before .before .before .if1 .left, start .pre) in
     let here = put-count (now (a .word)) (now (a .line)) short (first .result) (first .ensures .0) in
-    omega (arith, here, c .before .before .before .before .before .before .before .before .before .before .before .before .before .pre)
+    let text = c .before .before .before .before .before .before .before .before .before .before .before .verdict-text in
+    let eight : length (text .result .bytes) ≡ 8 = search needs in
+    let few : text .result .count ≤ 8 = text-short (verdictLine (verdictNumber (a .verdict)) (a .host)) (text .ensures .0) (text .ensures .1) eight in
+    omega (arith, here, few, start .pre)
 
 same-length : tie.Need-same-length
 same-length c = search needs
@@ -59,22 +78,26 @@ same-length c = search needs
 returns-2 : tie.Need-returns-2
 unfolding offerLine
 returns-2 c =
-    let a = c .before .before .before .before .before .before .before .before .before .before .before .before .before .args in
+    let start = c .before .before .before .before .before .before .before .before .before .before .before .before .before .before .before in
+    let a = start .args in
     let first = c .before .before .before .before .before .before .before .put in
-    let short : length (now (a .word)) ≤ length (now (a .line)) = omega (arith, c .before .before .before .before .before .before .before .before .before .before .if1 .left, c .before .before .before .before .before .before .before .before .before .before .before .before .before .pre) in
+    let short : length (now (a .word)) ≤ length (now (a .line)) = omega (arith, c .before .before .before .before .before .before .before .before .before .before .before .before .if1 .left, start .pre) in
     let here = put-count (now (a .word)) (now (a .line)) short (first .result) (first .ensures .0) in
     let put = put-over (now (a .word)) (now (a .line)) short (first .last .0) (first .ensures .1) in
-    let name = c .before .before .before .before .before .before .before .before .before .verdict-name in
-    let three : length (name .result) ≡ 3 = search needs in
-    offer-printed (now (a .line)) (now (a .word)) (first .last .0) (first .result) short here put (name .result) _ _ 3 (name .ensures)
-    three (c .before .before .before .before .before .before .before .before .before .before .if1 .left) (omega (arith, c .before .before .before .before .before .before .before .before .before .before .before .before .before .pre)) (c .before .before .put2 .ensures .1)
+    let text = c .before .before .before .before .before .before .before .before .before .before .before .verdict-text in
+    let eight : length (text .result .bytes) ≡ 8 = search needs in
+    let few : text .result .count ≤ 8 = text-short (verdictLine (verdictNumber (a .verdict)) (a .host)) (text .ensures .0) (text .ensures .1) eight in
+    offer-printed (now (a .line)) (now (a .word)) (first .last .0) (first .result) short here put _ _ _ (text .result .count)
+    (text-is (verdictLine (verdictNumber (a .verdict)) (a .host)) (text .ensures .0) (text .ensures .1)) (length-take-le (text .result .count) (text .result .bytes) (omega (arith, few, eight)))
+    (c .before .before .before .before .before .before .before .before .before .before .before .before .if1 .left) (omega (arith, few, start .pre)) (c .before .before .put2 .ensures .1)
 
 pub print-offer-spec : {M : Type 1} → statement M
 print-offer-spec =
     tie.close
     (tie.spec
     returns
-    verdict-name-requires
+    verdict-text-requires
+    slice-aggregate-name
     put-requires
     sub-put
     part-put-start

@@ -1,0 +1,2 @@
+-- Supervisors as a table.
+pub mod Supervisors

@@ -1,0 +1,14 @@
+-- The supervisors of a hierarchy as a table by host. Assumes nothing.
+use Prim.Native.Nat.{ℕ}
+use mathlib.Core.List.{List}
+use lib.ListN.{getD}
+use Rattle.rules.specs.Table.{tableOf}
+use Rattle.rules.specs.Hierarchy.{pairs, supervisorOf}
+
+-- the supervisor of each of the 256 host bytes
+unfoldable pub supervisorsIn : List ℕ → List ℕ
+supervisorsIn bytes = tableOf (supervisorOf (pairs bytes)) 0 256
+
+-- the supervisor that a table gives a host
+abbrev pub readFrom : List ℕ → ℕ → ℕ
+readFrom table h = getD table h 0

@@ -1,0 +1,33 @@
+-- The entries of a substructure as parts of its bytes: their number, their bytes, and the first of those that are left. Assumes nothing.
+use Prim.Native.Nat.{ℕ, zero, suc, _+_, _*_, _-_, _<_}
+use mathlib.Core.Path.{_≡_, refl, sym, _∙_, ap}
+use mathlib.Core.List.{List, [], _∷_}
+use native.Mathlib.Nat.{add-zero}
+use native.Mathlib.Numerals.{add-one}
+use native.Mathlib.Omega.{arith}
+use lib.ListN.{length, getD, drop}
+use lib.Seq.{getD-take, getD-drop}
+use Rattle.rules.specs.Bytes.{byteAt}
+use Rattle.rules.specs.Substructure.{partAt, partsFrom, numberIn}
+
+module _ (width : ℕ) (bytes : List ℕ) where
+  pub parts-length : (e n : ℕ) → length (partsFrom width bytes e n) ≡ n
+  unfolding partsFrom
+  parts-length e zero = refl
+  parts-length e (suc n) = ap suc (parts-length (suc e) n)
+
+  -- a byte of an entry is one of the whole
+  pub part-byte : (e i : ℕ) → i < width → byteAt (partAt width bytes e) i ≡ byteAt bytes (4 + width * e + i)
+  part-byte e i inside = getD-take width (drop (4 + width * e) bytes) i 0 inside ∙ getD-drop (4 + width * e) bytes i 0
+
+  -- an entry's number is its first byte
+  pub number-at : (e : ℕ) → 0 < width → numberIn (partAt width bytes e) ≡ byteAt bytes (4 + width * e)
+  number-at e some = part-byte e 0 some ∙ ap (λ (i : ℕ). getD bytes i 0) (add-zero (4 + width * e))
+
+  -- of those from entry e to the last the first is entry e
+  pub parts-next : (e : ℕ) → e < 32 → partsFrom width bytes e (32 - e) ≡ partAt width bytes e ∷ partsFrom width bytes (e + 1) (32 - (e + 1))
+  unfolding partsFrom
+  parts-next e h =
+      let left : 32 - e ≡ suc (32 - (e + 1)) = omega arith in
+      ap (partsFrom width bytes e) left
+      ∙ ap (λ (n : ℕ). partAt width bytes e ∷ partsFrom width bytes n (32 - (e + 1))) (sym (add-one e))

@@ -1,0 +1,2 @@
+-- What is printed of a verdict.
+pub mod Names
