@@ -7,8 +7,9 @@ use crate::bytes::u16_at;
 /// Words of access memory: the acceptance word, then four words a row.
 pub const ACCESS_WORDS: usize = 1 + ENTRY_WORDS * ROWS;
 
-/// Access memory as it is lent. Word 0 is nonzero once a list was accepted. Each row has the
-/// recovery master (0 for no entry) and three secondaries (0 for unused). Any content is a state.
+/// Access memory as it is lent. Word 0 is nonzero once a list, lone or in a block, was accepted.
+/// Each row has the recovery master (0 for no entry) and three secondaries (0 for unused). Any
+/// content is a state.
 pub type AccessMemory = [u16; ACCESS_WORDS];
 
 /// Bytes of a whole list, also the value of its size field.
@@ -29,7 +30,7 @@ const ACCEPTED: u16 = 1;
 /// Why a list is refused, by the number that is printed. Declared in the order of the tests.
 #[derive(Clone, Copy, Debug, PartialEq, Eq, PartialOrd, Ord)]
 pub enum ListFault {
-    /// a list was accepted before
+    /// a list or block was accepted before
     A1 = 1,
     /// length is not 292
     A2,
@@ -104,13 +105,13 @@ pub fn accept_list(board: &Board, access: &mut AccessMemory, list: &[u8]) -> Res
     Ok(())
 }
 
-/// Whether a list was accepted.
+/// Whether a list was accepted, lone or in a block.
 pub fn has_list(access: &AccessMemory) -> bool {
     access[0] != 0
 }
 
 /// The memory that the list leaves, or its first fault of A2 to A8.
-fn read_list(board: &Board, list: &[u8]) -> Result<AccessMemory, ListFault> {
+pub fn read_list(board: &Board, list: &[u8]) -> Result<AccessMemory, ListFault> {
     if list.len() != LIST_BYTES {
         return Err(ListFault::A2);
     }

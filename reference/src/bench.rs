@@ -2,8 +2,10 @@
 //! they have to give.
 
 use crate::access::Role;
+use crate::block::Abi;
 use crate::message::ANSWER_BYTES;
 
+mod blocks;
 mod boards;
 mod cluster;
 mod roles;
@@ -15,6 +17,7 @@ mod waits;
 pub enum Step {
     Board { description: Vec<u8>, line: &'static str },
     List { list: Vec<u8>, line: &'static str },
+    Block { abi: Abi, block: Vec<u8>, line: &'static str },
     Status { words: Vec<u32> },
     Message { channel: u8, message: Vec<u8>, room: usize, line: &'static str },
     Told { role: Role },
@@ -60,7 +63,8 @@ const WAIT: &str =
     "01 C4 03 0E 02 00 00 00 01 0A 02 02 00 00 00 00 00 03 00 00 00 10 00 00 00 00 00 00 00";
 
 /// Every fixed case: those of document 01's board as it stands at the start, the same on that board
-/// once it is described, and those of other boards.
+/// once it is described, those of other boards, all of these with their lists in blocks, and those
+/// of blocks.
 pub fn cases() -> Vec<Case> {
     let groups = [list_cases(), request_cases(), handover_cases(), config_cases(), wait_cases()];
     let mut cases = groups.concat();
@@ -72,7 +76,9 @@ pub fn cases() -> Vec<Case> {
     cases.extend(waits::cases());
     cases.push(worked_session());
     let described: Vec<_> = cases.iter().map(boards::described).collect();
-    [cases, described, boards::cases(), vec![roles::full_board()]].concat()
+    let listed = [cases, described, boards::cases(), vec![roles::full_board()]].concat();
+    let in_blocks = listed.iter().map(blocks::in_block).collect();
+    [listed, in_blocks, blocks::cases()].concat()
 }
 
 /// The bytes that a text of hexadecimal pairs spells.
@@ -84,6 +90,11 @@ pub fn bytes_of(text: &str) -> Vec<u8> {
 /// The list of the bench.
 pub fn bench_list() -> Vec<u8> {
     list_with(&["01 03 00 05 00 00 00 00 00", "02 03 00 06 00 0A 00 00 00"])
+}
+
+/// A block with the list of the bench and a hierarchy of some hosts.
+pub fn bench_block() -> Vec<u8> {
+    blocks::block_with(&bench_list(), &["0A 00", "03 0A", "05 03", "06 03"])
 }
 
 /// A list with these entries, and zeros behind them.

@@ -14,7 +14,7 @@ pub const TAG_PROCESSOR: u8 = 2;
 /// tests: A1 before any item, then each item in turn by D1 to D6.
 #[derive(Clone, Copy, Debug, PartialEq, Eq, PartialOrd, Ord)]
 pub enum BoardFault {
-    /// a list was accepted before
+    /// a list or block was accepted before
     A1 = 1,
     /// a bad tag, a bad length or a cut field
     D1 = 201,

@@ -2,12 +2,13 @@
 //! harness that compares it with the first.
 //!
 //! `board`, `bytes`, `outcome`, `record`, `message` and `wait` are the parts; `description`,
-//! `access` and `manager` are the board call, the list call and the message call over lent memory;
-//! `session` replays recordings. `bench` has the fixed cases, and `harness` makes and compares the
-//! random ones.
+//! `access`, `block` and `manager` are the board call, the list call, the block call and the
+//! message call over lent memory; `session` replays recordings. `bench` has the fixed cases, and
+//! `harness` makes and compares the random ones.
 
 pub mod access;
 pub mod bench;
+pub mod block;
 pub mod board;
 pub mod bytes;
 pub mod description;

@@ -3,6 +3,7 @@
 use std::io::{self, ErrorKind, Read, Write};
 
 use crate::access::{accept_list, AccessMemory, ListFault, ACCESS_WORDS};
+use crate::block::{accept_block, Abi, BlockFault};
 use crate::board::Board;
 use crate::bytes::{u16_at, u32_at};
 use crate::description::{take_board, BoardFault};
@@ -20,14 +21,23 @@ pub const TAG_STATUS: u8 = 2;
 /// Tag of a field that holds the channel host and a message.
 pub const TAG_MESSAGE: u8 = 3;
 
+/// Tag of a field that holds a block.
+pub const TAG_BLOCK: u8 = 4;
+
 /// Tag of a field that holds a board description.
 pub const TAG_BOARD: u8 = 6;
 
 /// Every good tag.
-pub const TAGS: [u8; 4] = [TAG_LIST, TAG_STATUS, TAG_MESSAGE, TAG_BOARD];
+pub const TAGS: [u8; 5] = [TAG_LIST, TAG_STATUS, TAG_MESSAGE, TAG_BLOCK, TAG_BOARD];
+
+/// The ABI bytes that a recorded block has to have.
+pub const RECORDED_ABI: Abi = [0, 1];
 
 /// The longest description that a recording can hold: 64 hosts and 32 processors.
 pub const LONGEST_BOARD: usize = 512;
+
+/// The longest block that a recording can hold.
+pub const LONGEST_BLOCK: usize = 512;
 
 const LONGEST_LIST: usize = 512;
 const LONGEST_STATUS: usize = 1020;
@@ -37,6 +47,7 @@ const LONGEST_MESSAGE_FIELD: usize = 512;
 #[derive(Clone, Copy, Debug, PartialEq, Eq)]
 pub enum Event {
     List(Result<(), ListFault>),
+    Block(Result<(), BlockFault>),
     /// new status words stand; nothing is printed
     Status,
     Message(Report, [u8; ANSWER_BYTES]),
@@ -54,7 +65,7 @@ pub struct Session<R> {
     body: Vec<u8>,
     /// what the descriptions have left
     pub board: Board,
-    /// what the lists have left
+    /// what the lists and blocks have left
     pub access: AccessMemory,
     /// what the messages have left
     pub records: RecordMemory,
@@ -125,6 +136,7 @@ impl<R: Read> Session<R> {
     fn run(&mut self, tag: u8) -> Event {
         match tag {
             TAG_LIST => Event::List(accept_list(&self.board, &mut self.access, &self.body)),
+            TAG_BLOCK => self.run_block(),
             TAG_BOARD => Event::Board(take_board(&mut self.board, &self.access, &self.body)),
             TAG_STATUS => {
                 self.status.clear();
@@ -133,6 +145,10 @@ impl<R: Read> Session<R> {
             }
             _ => self.run_message(),
         }
+    }
+
+    fn run_block(&mut self) -> Event {
+        Event::Block(accept_block(&self.board, &mut self.access, RECORDED_ABI, &self.body))
     }
 
     fn run_message(&mut self) -> Event {
@@ -153,6 +169,7 @@ pub fn call_of<'a>(body: &'a [u8], status: &'a [u32]) -> Call<'a> {
 fn is_good_length(tag: u8, length: usize) -> bool {
     match tag {
         TAG_LIST => length <= LONGEST_LIST,
+        TAG_BLOCK => length <= LONGEST_BLOCK,
         TAG_BOARD => length <= LONGEST_BOARD,
         TAG_STATUS => length <= LONGEST_STATUS && length.is_multiple_of(4),
         _ => (1..=LONGEST_MESSAGE_FIELD).contains(&length),
@@ -178,6 +195,8 @@ pub fn write_line(out: &mut impl Write, event: &Event) -> io::Result<()> {
     match event {
         Event::List(Ok(())) => writeln!(out, "list OK"),
         Event::List(Err(fault)) => writeln!(out, "list {fault:?}"),
+        Event::Block(Ok(())) => writeln!(out, "block OK"),
+        Event::Block(Err(fault)) => writeln!(out, "block {fault}"),
         Event::Status => Ok(()),
         Event::Message(report, answer) => write_message_line(out, report, answer),
         Event::Board(Ok(())) => writeln!(out, "board OK"),

@@ -1,6 +1,7 @@
-//! The first implementation's four functions, by their C declarations, behind safe wrappers.
+//! The first implementation's five functions, by their C declarations, behind safe wrappers.
 
 use crate::access::{AccessMemory, ACCESS_WORDS};
+use crate::block::Abi;
 use crate::board::{BoardMemory, BOARD_BYTES};
 use crate::manager::Call;
 use crate::record::{RecordMemory, RECORD_WORDS};
@@ -16,6 +17,16 @@ extern "C" {
     ) -> u32;
 
     fn pomrozek_list(board: *const u8, access: *mut u16, list: *const u8, list_len: usize) -> u32;
+
+    fn pomrozek_block(
+        board: *const u8,
+        access: *mut u16,
+        abi_first: u8,
+        abi_second: u8,
+        block: *const u8,
+        block_len: usize,
+        loop_host: *mut u32,
+    ) -> u32;
 
     fn pomrozek_message(
         board: *const u8,
@@ -71,6 +82,33 @@ pub fn list(board: &BoardMemory, access: &mut AccessMemory, list: &[u8]) -> u32 
     // SAFETY: each pointer is valid for the length that the declaration gives or that is passed,
     // and what may be written does not overlap anything else.
     unsafe { pomrozek_list(board.as_ptr(), access.as_mut_ptr(), list.as_ptr(), list.len()) }
+}
+
+/// What the block call gave: its verdict (0 if it is accepted, k for Ak, 100 + k for Bk) and the
+/// loop's host.
+#[derive(Clone, Copy, Debug, PartialEq, Eq)]
+pub struct RawVerdict {
+    pub number: u32,
+    pub loop_host: u32,
+}
+
+/// The block call.
+pub fn block(board: &BoardMemory, access: &mut AccessMemory, abi: Abi, block: &[u8]) -> RawVerdict {
+    let mut loop_host = [UNWRITTEN];
+    // SAFETY: each pointer is valid for the length that the declaration gives or that is passed,
+    // and what may be written does not overlap anything else.
+    let number = unsafe {
+        pomrozek_block(
+            board.as_ptr(),
+            access.as_mut_ptr(),
+            abi[0],
+            abi[1],
+            block.as_ptr(),
+            block.len(),
+            loop_host.as_mut_ptr(),
+        )
+    };
+    RawVerdict { number, loop_host: loop_host[0] }
 }
 
 /// The message call.

@@ -10,7 +10,7 @@ use pomrozek_reference::harness::cases::{recording_of, run_case, Model};
 use pomrozek_reference::harness::coverage::Coverage;
 use pomrozek_reference::harness::edges::edge_recordings;
 use pomrozek_reference::harness::library::{
-    compare_boards, compare_lists, compare_messages, compare_starts, StaticLibrary,
+    compare_blocks, compare_boards, compare_lists, compare_messages, compare_starts, StaticLibrary,
 };
 use pomrozek_reference::harness::program::{first_difference, keep, run};
 use pomrozek_reference::harness::recordings::recording;
@@ -20,6 +20,7 @@ const USAGE: &str = "usage: crosscheck --replay PROGRAM [--seed N] [--recordings
 const RECORDINGS: u64 = 2400;
 const LIBRARY_MESSAGES: u64 = 400_000;
 const LIBRARY_LISTS: u64 = 40_000;
+const LIBRARY_BLOCKS: u64 = 40_000;
 const LIBRARY_BOARDS: u64 = 40_000;
 const LIBRARY_STARTS: u64 = 1_000;
 
@@ -157,6 +158,7 @@ fn check_library(seed: u64) -> Result<Coverage, String> {
     compare_boards(seed, LIBRARY_BOARDS, &mut coverage)?;
     compare_messages(seed, LIBRARY_MESSAGES, &mut coverage)?;
     compare_lists(seed, LIBRARY_LISTS, &mut coverage)?;
+    compare_blocks(seed, LIBRARY_BLOCKS, &mut coverage)?;
     println!("library calls, not asked/asked by outcome:\n{}", coverage.table(true));
     Ok(coverage)
 }

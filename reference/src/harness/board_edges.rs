@@ -63,7 +63,7 @@ fn nothing_recording() -> Vec<u8> {
 }
 
 /// A message that asks for an answer.
-fn asked(kind: Kind, host: u8, processor: u8) -> Vec<u8> {
+pub fn asked(kind: Kind, host: u8, processor: u8) -> Vec<u8> {
     let [low, high] = kind.number().to_le_bytes();
     message_field(host, &[low, high, host, processor, 2, 0, 0, 0, processor])
 }

@@ -2,13 +2,14 @@
 
 use crate::access::{accept_list, AccessMemory, Role, ACCESS_WORDS};
 use crate::bench::{Case, Step};
+use crate::block::{accept_block, Abi};
 use crate::board::Board;
 use crate::description::take_board;
 use crate::harness::recordings::{field, message_field, status_field};
 use crate::manager::{handle, Call, Setup};
 use crate::message::ANSWER_BYTES;
 use crate::record::{RecordMemory, RECORD_WORDS};
-use crate::session::{write_line, Event, TAG_BOARD, TAG_LIST};
+use crate::session::{write_line, Event, RECORDED_ABI, TAG_BLOCK, TAG_BOARD, TAG_LIST};
 
 /// What a manager remembers: at the start the first board, and zeros.
 pub struct Memory {
@@ -28,6 +29,9 @@ pub trait Calls {
     /// Takes a list and gives its line.
     fn list(&self, memory: &mut Memory, list: &[u8]) -> String;
 
+    /// Takes a block for these ABI bytes and gives its line.
+    fn block(&self, memory: &mut Memory, abi: Abi, block: &[u8]) -> String;
+
     /// Takes a message and gives its line and the number of the role that it reports.
     fn message(&self, memory: &mut Memory, call: &Call, answer: &mut [u8]) -> (String, u32);
 }
@@ -46,6 +50,10 @@ impl Calls for Model {
 
     fn list(&self, memory: &mut Memory, list: &[u8]) -> String {
         line_of(&Event::List(accept_list(&memory.board, &mut memory.access, list)))
+    }
+
+    fn block(&self, memory: &mut Memory, abi: Abi, block: &[u8]) -> String {
+        line_of(&Event::Block(accept_block(&memory.board, &mut memory.access, abi, block)))
     }
 
     fn message(&self, memory: &mut Memory, call: &Call, answer: &mut [u8]) -> (String, u32) {
@@ -75,6 +83,9 @@ pub fn run_case(calls: &impl Calls, case: &Case) -> Result<(), String> {
                 (calls.board(&mut memory, description), line.to_string())
             }
             Step::List { list, line } => (calls.list(&mut memory, list), line.to_string()),
+            Step::Block { abi, block, line } => {
+                (calls.block(&mut memory, *abi, block), line.to_string())
+            }
             Step::Status { words } => {
                 status = words;
                 continue;
@@ -100,8 +111,8 @@ fn role_line(number: u32) -> String {
     format!("role {number}")
 }
 
-/// The case as a recording and the lines that it has to give. Steps with another answer buffer are
-/// left out, as a recording cannot say them, and roles, which it does not tell.
+/// The case as a recording and the lines that it has to give. Steps with another answer buffer or
+/// other ABI bytes are left out, as a recording cannot say them, and roles, which it does not tell.
 pub fn recording_of(case: &Case) -> (Vec<u8>, String) {
     let mut recording = Vec::new();
     let mut lines = String::new();
@@ -109,6 +120,8 @@ pub fn recording_of(case: &Case) -> (Vec<u8>, String) {
         let (bytes, line) = match step {
             Step::Board { description, line } => (field(TAG_BOARD, description), *line),
             Step::List { list, line } => (field(TAG_LIST, list), *line),
+            Step::Block { abi, .. } if *abi != RECORDED_ABI => continue,
+            Step::Block { block, line, .. } => (field(TAG_BLOCK, block), *line),
             Step::Status { words } => (status_field(words), ""),
             Step::Message { room, .. } if *room != ANSWER_BYTES => continue,
             Step::Told { .. } => continue,

@@ -5,6 +5,9 @@ use std::fmt::Write;
 
 use crate::access::LIST_FAULTS;
 use crate::description::{BoardFault, BOARD_FAULTS};
+use crate::harness::block_counts::BlockCounts;
+use crate::harness::block_histories::History;
+use crate::harness::block_situations::Offered;
 use crate::harness::board_situations::{self, Listed, Met, Offer};
 use crate::harness::clusters::Clusters;
 use crate::harness::goals::{goals, Subject, POSSIBLE, SUBJECTS};
@@ -15,7 +18,7 @@ use crate::harness::tally::Tally;
 use crate::harness::wait_situations::{count_waits, waits};
 use crate::message::HEADER_BYTES;
 use crate::outcome::{Outcome, OUTCOMES};
-use crate::session::{call_of, write_line, Event, Session};
+use crate::session::{call_of, write_line, Event, Session, RECORDED_ABI};
 
 /// How often each combination, role, situation, verdict and ending was reached, and with which
 /// processors.
@@ -34,6 +37,7 @@ pub struct Coverage {
     refusals: Tally,
     lists: [u64; LIST_FAULTS.len() + 1],
     listed: Tally,
+    blocks: BlockCounts,
     boards: [u64; BOARD_FAULTS.len() + 1],
     offers: Tally,
     pub bad_records: u64,
@@ -54,6 +58,7 @@ impl Default for Coverage {
             refusals: board_situations::refusals(),
             lists: [0; LIST_FAULTS.len() + 1],
             listed: board_situations::lists(),
+            blocks: BlockCounts::default(),
             boards: [0; BOARD_FAULTS.len() + 1],
             offers: board_situations::offers(),
             bad_records: 0,
@@ -67,15 +72,20 @@ impl Coverage {
     pub fn count_recording(&mut self, recording: &[u8]) -> Vec<u8> {
         let mut lines = Vec::new();
         let mut session = Session::new(recording);
-        let mut watch = Watch::default();
+        let (mut watch, mut history) = (Watch::default(), History::default());
         let mut before = session.records;
         // Reading from memory and writing to it do not fail.
         while let Ok(Some(event)) = session.next_event() {
             let _ = write_line(&mut lines, &event);
+            history.count(&mut self.blocks.histories, &event);
             match event {
                 Event::List(verdict) => {
                     let (board, list) = (&session.board, session.body());
                     self.count_list(&Listed { board, list, verdict });
+                }
+                Event::Block(verdict) => {
+                    let (board, abi, block) = (&session.board, RECORDED_ABI, session.body());
+                    self.count_block(&Offered { board, abi, block, verdict });
                 }
                 Event::Status => {}
                 Event::Message(report, _) => {
@@ -122,6 +132,11 @@ impl Coverage {
         board_situations::count_list(&mut self.listed, listed);
     }
 
+    /// Counts one block with its verdict.
+    pub fn count_block(&mut self, offered: &Offered) {
+        self.blocks.count(offered);
+    }
+
     /// Counts one description with its verdict.
     pub fn count_board(&mut self, description: &[u8], verdict: Result<(), BoardFault>) {
         self.boards[board_place(verdict)] += 1;
@@ -133,9 +148,9 @@ impl Coverage {
         self.messages.iter().flatten().flatten().sum()
     }
 
-    /// All lists and descriptions counted.
+    /// All lists, blocks and descriptions counted.
     pub fn offer_total(&self) -> u64 {
-        self.lists.iter().chain(&self.boards).sum()
+        self.lists.iter().chain(&self.boards).sum::<u64>() + self.blocks.total()
     }
 
     /// What should have been reached and was not, or was reached and should not have been. R1 and
@@ -145,6 +160,7 @@ impl Coverage {
         let mut gaps = self.message_gaps(library);
         gaps.extend(self.processor_gaps());
         gaps.extend(self.verdict_gaps());
+        gaps.extend(self.blocks.gaps(library));
         gaps.extend(self.roles.gaps(library));
         gaps.extend(self.tallies(library).into_iter().flat_map(Tally::gaps));
         gaps
@@ -228,6 +244,7 @@ impl Coverage {
         for (place, count) in self.boards.iter().enumerate() {
             write!(text, " {} {count}", board_verdict(place)).unwrap();
         }
+        text.push_str(&self.blocks.table(library));
         text.push_str(&self.roles.table(library));
         text.extend(self.tallies(library).into_iter().map(Tally::table));
         text
@@ -283,8 +300,8 @@ mod tests {
         let setup = Setup { board: &board, access: &access };
         let all = coverage.gaps(true).len();
         let named: usize = coverage.tallies(true).iter().map(|tally| tally.gaps().len()).sum();
-        let roles = coverage.roles.gaps(true).len();
-        assert_eq!(all, goals().len() + 256 + 9 + 8 + roles + named);
+        let (roles, blocks) = (coverage.roles.gaps(true).len(), coverage.blocks.gaps(true).len());
+        assert_eq!(all, goals().len() + 256 + 9 + 8 + roles + blocks + named);
         let request = [0, 0xC0, 3, 0, 2, 0, 0, 0, 1];
         coverage.count_message(&met(setup, &request, Outcome::OK), None);
         coverage.count_message(&met(setup, &request[..8], Outcome::N4), None);

@@ -39,7 +39,7 @@ pub fn good_fields(random: &mut Random) -> Vec<Field> {
     let mut fields = host_fields(random, hosts);
     fields.extend(processor_fields(random, processors));
     if random.one_in(2) {
-        shuffle(random, &mut fields);
+        random.shuffle(&mut fields);
     }
     fields
 }
@@ -74,20 +74,13 @@ fn processor_fields(random: &mut Random, count: usize) -> Vec<Field> {
 /// Different numbers other than 0. The first and the last there is are often among them.
 fn distinct_numbers(random: &mut Random, count: usize) -> Vec<u8> {
     let mut numbers: Vec<u8> = (1..=255).collect();
-    shuffle(random, &mut numbers);
+    random.shuffle(&mut numbers);
     if random.one_in(2) {
         numbers.retain(|number| ![1, 255].contains(number));
         numbers.splice(0..0, random.pick(&[[1, 255], [255, 1]]));
     }
     numbers.truncate(count);
     numbers
-}
-
-/// Puts all of them into another order.
-fn shuffle<T>(random: &mut Random, all: &mut [T]) {
-    for end in (1..all.len()).rev() {
-        all.swap(end, random.below(end + 1));
-    }
 }
 
 /// A description with the given fault, sometimes with others as well, cut to the longest. It cannot

@@ -2,12 +2,13 @@
 //! shortest good fields, with every processor byte in messages of every type, and with every number
 //! of waits.
 
+use crate::harness::block_recordings::block_recordings;
 use crate::harness::board_edges::board_recordings;
 use crate::harness::clients::client_list;
 use crate::harness::descriptions::{host_field, processor_field};
 use crate::harness::recordings::{field, header_of, message_field, status_field};
 use crate::message::{Kind, KINDS, LONGEST_MESSAGE};
-use crate::session::{TAGS, TAG_BOARD, TAG_LIST};
+use crate::session::{TAGS, TAG_BLOCK, TAG_BOARD, TAG_LIST};
 
 /// Lengths on both sides of each limit.
 const LENGTHS: [usize; 19] =
@@ -23,6 +24,7 @@ pub fn edge_recordings() -> Vec<Vec<u8>> {
     recordings.push(processor_recording());
     recordings.push(wait_recording());
     recordings.extend(board_recordings());
+    recordings.extend(block_recordings());
     recordings
 }
 
@@ -67,10 +69,11 @@ fn small_recording() -> Vec<u8> {
     small_fields().concat()
 }
 
-fn small_fields() -> [Vec<u8>; 6] {
+fn small_fields() -> [Vec<u8>; 7] {
     [
         field(TAG_BOARD, &[host_field(3, 1), processor_field(1, 0, 0)].concat()),
         field(TAG_LIST, &[0xEA, 0xF1, 0x24]),
+        field(TAG_BLOCK, &[0, 1, 0xEA, 0xF1]),
         status_field(&[1, 2]),
         message_field(3, &[0, 0xC0, 3, 7, 2, 0, 0, 0, 1]),
         field(TAG_LIST, &[]),
@@ -87,7 +90,7 @@ fn field_starts() -> Vec<usize> {
 /// The recording with something else put in at `start`: bad tags, alone and with a length, and each
 /// good tag with each length, with half and all of its body.
 fn spoiled(whole: &[u8], start: usize) -> Vec<Vec<u8>> {
-    let bad_tags = [0, 4, 5, 7, 128, 129, 130, 131, 134, 255];
+    let bad_tags = [0, 5, 7, 128, 129, 130, 131, 132, 134, 255];
     let mut pieces: Vec<_> = bad_tags.map(|tag| vec![tag]).to_vec();
     pieces.extend(bad_tags.map(|tag| header_of(tag, 0).to_vec()));
     for tag in TAGS {

@@ -4,8 +4,12 @@
 use std::fmt::Debug;
 
 use crate::access::{accept_list, has_list, AccessMemory, ListFault, LIST_FAULTS};
+use crate::block::{accept_block, Abi, BlockFault, HIERARCHY_AT, LIST_AT};
 use crate::board::{Board, BOARD_BYTES};
 use crate::description::{take_board, BoardFault, BOARD_FAULTS};
+use crate::harness::block_recordings::edge_calls;
+use crate::harness::block_situations::Offered;
+use crate::harness::blocks::{any_block_call, BlockCall};
 use crate::harness::board_edges::edge_descriptions;
 use crate::harness::board_situations::{Listed, Met};
 use crate::harness::cases::{Calls, Memory};
@@ -24,7 +28,7 @@ use crate::manager::{handle, Call, Setup};
 use crate::message::ANSWER_BYTES;
 use crate::outcome::{Outcome, Report};
 use crate::record::RecordMemory;
-use crate::static_library::{self, RawReport};
+use crate::static_library::{self, RawReport, RawVerdict};
 
 const LONGEST_LIST: usize = 600;
 const LONGEST_BOARD: usize = 700;
@@ -56,6 +60,20 @@ impl Calls for StaticLibrary {
         match static_library::list(&memory.board.0, &mut memory.access, list) {
             0 => "list OK".to_string(),
             number => format!("list A{number}"),
+        }
+    }
+
+    fn block(&self, memory: &mut Memory, abi: Abi, block: &[u8]) -> String {
+        let Memory { board, access, .. } = memory;
+        let RawVerdict { number, loop_host } = static_library::block(&board.0, access, abi, block);
+        let name = match number {
+            0 => "OK".to_string(),
+            1..100 => format!("A{number}"),
+            _ => format!("B{}", number - 100),
+        };
+        match loop_host {
+            0 => format!("block {name}"),
+            host => format!("block {name} {host}"),
         }
     }
 
@@ -198,6 +216,60 @@ fn compare_list(
     same("board memory", &guarded(&board.0, 0x5A), &lent_board)?;
     same("access memory", &guarded(&expected, 0x5AA5), &lent)?;
     Ok(verdict)
+}
+
+/// Compares the block calls that are always the same, and then this many others.
+pub fn compare_blocks(seed: u64, calls: u64, coverage: &mut Coverage) -> Result<(), String> {
+    let random =
+        (0..calls).map(|number| any_block_call(&mut Random::new(seed ^ 0x426C_6F63, number)));
+    for (number, call) in edge_calls().into_iter().chain(random).enumerate() {
+        let verdict = compare_block(&call).map_err(|text| {
+            let BlockCall { board, access, abi, block } = &call;
+            let (board, block) = (hex(&board.0), hex(block));
+            let told = format!(" board {board}\n access {access:?}\n ABI {abi:?}\n block {block}");
+            format!("block call {number}: {text}\n{told}")
+        })?;
+        let BlockCall { board, abi, block, .. } = &call;
+        coverage.count_block(&Offered { board, abi: *abi, block, verdict });
+    }
+    Ok(())
+}
+
+/// Makes the call both ways. Where the block is accepted, the list call with its list has to leave
+/// the same memory.
+fn compare_block(call: &BlockCall) -> Result<Result<(), BlockFault>, String> {
+    let BlockCall { board, access, abi, block } = call;
+    let mut expected = *access;
+    let verdict = accept_block(board, &mut expected, *abi, block);
+    let mut lent_board = guarded(&board.0, 0x5A);
+    let mut lent = guarded(access, 0x5AA5);
+    // The guards put the block at an odd address.
+    let lent_block = guarded(block, 0xC3);
+    let given = static_library::block(
+        lent_part(&mut lent_board),
+        lent_part(&mut lent),
+        *abi,
+        between_guards(&lent_block),
+    );
+    same("verdict", &raw_verdict(verdict), &given)?;
+    same("board memory", &guarded(&board.0, 0x5A), &lent_board)?;
+    same("access memory", &guarded(&expected, 0x5AA5), &lent)?;
+    if verdict.is_ok() {
+        let mut by_list = *access;
+        static_library::list(&board.0, &mut by_list, &block[LIST_AT..HIERARCHY_AT]);
+        same("access memory of the lone list", &expected, &by_list)?;
+    }
+    Ok(verdict)
+}
+
+/// The verdict by the library's numbers.
+fn raw_verdict(verdict: Result<(), BlockFault>) -> RawVerdict {
+    match verdict {
+        Ok(()) => RawVerdict { number: 0, loop_host: 0 },
+        Err(fault) => {
+            RawVerdict { number: fault.number(), loop_host: u32::from(fault.loop_host()) }
+        }
+    }
 }
 
 /// Compares this many message calls.

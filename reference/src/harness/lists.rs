@@ -178,7 +178,8 @@ fn empty_list(random: &mut Random) -> Vec<u8> {
     list
 }
 
-fn put(list: &mut [u8], slot: usize, entry: &[u8; ENTRY_BYTES]) {
+/// Writes one entry of a list.
+pub fn put(list: &mut [u8], slot: usize, entry: &[u8; ENTRY_BYTES]) {
     list[LIST_HEADER_BYTES + ENTRY_BYTES * slot..][..ENTRY_BYTES].copy_from_slice(entry);
 }
 

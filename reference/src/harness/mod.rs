@@ -1,6 +1,13 @@
 //! Makes recordings and calls that steer into every outcome, counts what they reach, and runs them
 //! through the first implementation.
 
+pub mod block_counts;
+pub mod block_edges;
+pub mod block_faults;
+pub mod block_histories;
+pub mod block_recordings;
+pub mod block_situations;
+pub mod blocks;
 pub mod board_edges;
 pub mod board_situations;
 pub mod cases;
@@ -11,6 +18,7 @@ pub mod descriptions;
 pub mod drafts;
 pub mod edges;
 pub mod goals;
+pub mod hierarchy_situations;
 #[cfg(feature = "static-library")]
 pub mod library;
 pub mod lists;

@@ -1,9 +1,11 @@
-//! Makes session recordings: the boards, the list, status words and messages of a session,
+//! Makes session recordings: the boards, the list or block, status words and messages of a session,
 //! sometimes with a bad or cut field at the end.
 
 use crate::access::{accept_list, has_list, AccessMemory, ListFault, ACCESS_WORDS, LIST_FAULTS};
+use crate::block::{accept_block, BLOCK_FAULTS};
 use crate::board::Board;
 use crate::description::{take_board, BOARD_FAULTS};
+use crate::harness::blocks::{any_block, faulty_block, good_block};
 use crate::harness::clients::{client_list, client_status, mixed_clients};
 use crate::harness::clusters::Clusters;
 use crate::harness::descriptions::{faulty_description, first_fields, good_fields};
@@ -15,7 +17,10 @@ use crate::manager::{handle, Call, Setup};
 use crate::message::ANSWER_BYTES;
 use crate::outcome::Outcome;
 use crate::record::{Record, RecordMemory, RECORD_WORDS};
-use crate::session::{LONGEST_BOARD, TAG_BOARD, TAG_LIST, TAG_MESSAGE, TAG_STATUS};
+use crate::session::{
+    LONGEST_BLOCK, LONGEST_BOARD, RECORDED_ABI, TAG_BLOCK, TAG_BOARD, TAG_LIST, TAG_MESSAGE,
+    TAG_STATUS,
+};
 
 /// The most status words and the longest list that a recording can hold.
 const MOST_WORDS: usize = 255;
@@ -108,6 +113,22 @@ impl Recorder {
         let _ = accept_list(&self.board, &mut self.access, list);
     }
 
+    fn block(&mut self, block: &[u8]) {
+        self.bytes.extend(field(TAG_BLOCK, block));
+        // Nor does it here.
+        let _ = accept_block(&self.board, &mut self.access, RECORDED_ABI, block);
+    }
+
+    /// The list, or a block with it.
+    fn list_or_block(&mut self, list: &[u8]) {
+        if self.random.one_in(2) {
+            self.list(list);
+        } else {
+            let block = good_block(&mut self.random, &self.board, RECORDED_ABI, list);
+            self.block(&block);
+        }
+    }
+
     fn status(&mut self, words: Vec<u32>) {
         self.bytes.extend(status_field(&words));
         self.status = words;
@@ -120,17 +141,18 @@ impl Recorder {
         handle(setup, &mut self.records, &call, &mut [0; ANSWER_BYTES]).outcome
     }
 
-    /// Descriptions, messages and refused lists before the list, then this many goals one after the
-    /// other. Of two recordings one has no description before its list, so that the first board
-    /// stands.
+    /// Descriptions, messages and refused lists and blocks before the list or block, then this many
+    /// goals one after the other. Of two recordings one has no description before its list, so that
+    /// the first board stands.
     fn steer(&mut self, messages: usize) {
         let goals = goals();
         let described = self.random.one_in(2);
         for _ in 0..self.random.below(5) {
             self.approach(&goals);
-            match self.random.below(4) {
+            match self.random.below(6) {
                 0 if described => self.offer_board(),
                 0 | 1 => self.faulty_list(&LIST_FAULTS[1..]),
+                2 | 3 => self.faulty_blocks(),
                 _ => {}
             }
         }
@@ -139,7 +161,7 @@ impl Recorder {
         }
         if !self.random.one_in(20) {
             let list = good_list(&mut self.random, &self.board);
-            self.list(&list);
+            self.list_or_block(&list);
         }
         for number in 0..messages {
             if number % FOCUS_MESSAGES == 0 {
@@ -203,13 +225,24 @@ impl Recorder {
         }
     }
 
+    /// Blocks with faults. A board without hosts may take one, as it has none for a loop.
+    fn faulty_blocks(&mut self) {
+        for _ in 0..self.random.between(1, 6) {
+            let fault = self.random.pick(&BLOCK_FAULTS[1..]);
+            let random = &mut self.random;
+            let block = faulty_block(random, &self.board, RECORDED_ABI, fault, LONGEST_BLOCK);
+            self.block(&block);
+        }
+    }
+
     fn faulty_list(&mut self, faults: &[ListFault]) {
         let fault = self.random.pick(faults);
         let list = faulty_list(&mut self.random, &self.board, fault, LONGEST_LIST);
         self.list(&list);
     }
 
-    /// Mostly a message with a goal; now and then another list or board, other words or mere noise.
+    /// Mostly a message with a goal; now and then another list, block or board, other words or mere
+    /// noise.
     fn steer_once(&mut self, goals: &[Goal]) {
         match self.random.below(60) {
             0 => self.faulty_list(&LIST_FAULTS),
@@ -225,6 +258,10 @@ impl Recorder {
                 self.message(channel, &noise);
             }
             3 if has_list(&self.access) => self.offer_board(),
+            4 if has_list(&self.access) => {
+                let block = any_block(&mut self.random, &self.board, RECORDED_ABI, LONGEST_BLOCK);
+                self.block(&block);
+            }
             _ => self.approach(goals),
         }
     }
@@ -289,7 +326,7 @@ impl Recorder {
         } else {
             client_list()
         };
-        self.list(&list);
+        self.list_or_block(&list);
         for (channel, message) in mixed_clients(&mut self.random) {
             if self.random.one_in(12) {
                 let words = client_status(&mut self.random);
@@ -315,11 +352,12 @@ impl Recorder {
     /// A bad tag or a bad length, and behind it a good field that must not be read.
     fn add_bad_field(&mut self) {
         let long = self.random.between(1021, 65_535);
-        let bad = match self.random.below(5) {
-            0 => header_of(self.random.pick_or(&[0, 4, 5], |r| r.between(7, 255) as u8), 0),
+        let bad = match self.random.below(6) {
+            0 => header_of(self.random.pick_or(&[0, 5], |r| r.between(7, 255) as u8), 0),
             1 => header_of(TAG_LIST, self.random.pick(&[513, long])),
             2 => header_of(TAG_BOARD, self.random.pick(&[513, 518, long])),
-            3 => header_of(TAG_STATUS, self.random.pick(&[1, 2, 3, 6, 1019, 1021, 1024, long])),
+            3 => header_of(TAG_BLOCK, self.random.pick(&[513, long])),
+            4 => header_of(TAG_STATUS, self.random.pick(&[1, 2, 3, 6, 1019, 1021, 1024, long])),
             _ => header_of(TAG_MESSAGE, self.random.pick(&[0, 513, long])),
         };
         self.bytes.extend(bad);
@@ -336,8 +374,10 @@ pub fn header_of(tag: u8, length: usize) -> [u8; 3] {
 #[cfg(test)]
 mod tests {
     use super::*;
+    use crate::block::{BLOCK_BYTES, HIERARCHY_AT, LIST_AT};
     use crate::harness::coverage::Coverage;
     use crate::harness::edges::edge_recordings;
+    use crate::session::replay;
 
     #[test]
     fn recordings_leave_no_gap() {
@@ -347,5 +387,44 @@ mod tests {
             coverage.count_recording(&recording);
         }
         assert_eq!([coverage.gaps(false), coverage.ending_gaps()].concat(), [""; 0]);
+    }
+
+    /// The recording with the list alone in place of each whole block.
+    fn with_lone_lists(mut recording: &[u8]) -> Vec<u8> {
+        let mut changed = Vec::new();
+        while let [tag, low, high, rest @ ..] = recording {
+            let length = usize::from(u16::from_le_bytes([*low, *high]));
+            let (body, behind) = rest.split_at(length.min(rest.len()));
+            changed.extend(match (*tag, body.len()) {
+                (TAG_BLOCK, BLOCK_BYTES) => field(TAG_LIST, &body[LIST_AT..HIERARCHY_AT]),
+                _ => recording[..recording.len() - behind.len()].to_vec(),
+            });
+            recording = behind;
+        }
+        changed.extend(recording);
+        changed
+    }
+
+    /// The lines of messages, and how many of blocks and lists were accepted.
+    fn message_lines(recording: &[u8]) -> (Vec<String>, usize) {
+        let mut lines = Vec::new();
+        replay(recording, &mut lines).unwrap();
+        let text = String::from_utf8(lines).unwrap();
+        let (offers, messages): (Vec<_>, Vec<_>) =
+            text.lines().map(str::to_string).partition(|line| line.starts_with(['b', 'l']));
+        let accepted =
+            offers.iter().filter(|line| ["block OK", "list OK"].contains(&line.as_str()));
+        (messages, accepted.count())
+    }
+
+    /// In recordings of published boot code no block is refused before the list.
+    #[test]
+    fn a_block_leads_to_the_answers_of_its_list() {
+        let clients = (1..LONG_EVERY / CLIENTS_EVERY).map(|count| count * CLIENTS_EVERY - 1);
+        for number in clients {
+            let recording = recording(9, number);
+            let lone = with_lone_lists(&recording);
+            assert_eq!(message_lines(&recording), message_lines(&lone), "{number}");
+        }
     }
 }

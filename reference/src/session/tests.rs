@@ -1,7 +1,7 @@
 //! What is printed, and where a recording is bad or cut.
 
 use super::*;
-use crate::bench::bench_list;
+use crate::bench::{bench_block, bench_list};
 use crate::harness::recordings::{field, message_field, status_field};
 
 const GET_STATUS: [u8; 9] = [0, 0xC4, 3, 0, 2, 0, 0, 0, 1];
@@ -56,7 +56,7 @@ fn verdicts_are_printed_by_number() {
 
 #[test]
 fn bad_tags_are_judged_alone() {
-    for tag in [0, 4, 5, 7, 131, 134, 255] {
+    for tag in [0, 5, 7, 131, 132, 134, 255] {
         assert_eq!(lines(&[tag]), "bad record\n");
         assert_eq!(lines(&[&[tag], &field(TAG_LIST, &[])[..]].concat()), "bad record\n");
     }
@@ -77,14 +77,44 @@ fn bad_lengths_are_judged_before_the_body() {
         let low_high = length.to_le_bytes();
         lines(&[tag, low_high[0], low_high[1]])
     };
-    let bad =
-        [(1, 513), (2, 1), (2, 1022), (2, 1024), (3, 0), (3, 513), (1, 0xFFFF), (6, 513), (6, 768)];
+    let bad = [
+        (1, 513),
+        (2, 1),
+        (2, 1022),
+        (2, 1024),
+        (3, 0),
+        (3, 513),
+        (1, 0xFFFF),
+        (4, 513),
+        (4, 0xFFFF),
+        (6, 513),
+        (6, 768),
+    ];
     for (tag, length) in bad {
         assert_eq!(judged(tag, length), "bad record\n", "{tag} {length}");
     }
-    for (tag, length) in [(1, 512), (2, 1020), (3, 512), (3, 1), (6, 512)] {
+    for (tag, length) in [(1, 512), (2, 1020), (3, 512), (3, 1), (4, 512), (6, 512)] {
         assert_eq!(judged(tag, length), "cut record\n", "{tag} {length}");
     }
+}
+
+#[test]
+fn blocks_are_printed_by_number_and_loop_host() {
+    let mut swapped = bench_block();
+    swapped.swap(0, 1);
+    let mut master_266 = bench_block();
+    master_266[7..9].copy_from_slice(&[10, 1]);
+    let mut looped = bench_block();
+    looped[298..300].copy_from_slice(&[13, 13]);
+    let mut otp_size = bench_block();
+    otp_size[364] = 68;
+    let blocks = [Vec::new(), swapped, master_266, looped, otp_size, bench_block(), bench_block()];
+    let fields = blocks.map(|block| field(TAG_BLOCK, &block)).concat();
+    let expected = "block B1\nblock B2\nblock A7\nblock B8 13\nblock B10\nblock OK\nblock A1\n";
+    assert_eq!(lines(&fields), expected);
+    let behind = [field(TAG_LIST, &bench_list()), field(TAG_BOARD, &[])].concat();
+    let expected = format!("{expected}list A1\nboard A1\n");
+    assert_eq!(lines(&[fields, behind].concat()), expected);
 }
 
 #[test]
