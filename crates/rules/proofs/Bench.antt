@@ -1,5 +1,5 @@
--- The starred cases hold, those of the shared control word, of board descriptions, of roles and of waits: one computed check of the five
--- tables. Assumes nothing.
+-- The starred cases hold, those of the shared control word, of board descriptions, of roles, of waits and of blocks: one computed check of the
+-- seven tables. Assumes nothing.
 use mathlib.Core.Path.{_≡_, refl}
 use mathlib.Core.List.{List, map}
 use Rattle.rules.specs.Table.{firstOf, anyOf, placeOf, tableOf}
@@ -8,6 +8,8 @@ use Rattle.rules.specs.Board.{boardHost, activeHost, rowOf, onBoard, cla
 use Rattle.rules.specs.Description.{nothingListed, ourDescription, bodySize, fieldGood, noItem, itemIn, fieldSize, itemsFrom, itemsIn, listsHost, listsProcessor, repeats, otherClass, isFull, itemTable, withItem, itemsTable, descriptionTable, boardVerdict, withItems, descriptionIn, described, markIn, rowIn, classIn, sharedCluster, sharedIn, homeIn, boardOf, ours}
 use Rattle.rules.specs.Substructure.{partsFrom, namedIn, inTurn}
 use Rattle.rules.specs.AccessList.{noEntry, entryTable, contentTable, listTable, verdictOf, entryIn, withPart, withParts, noEntries, entriesOf, hasEntry}
+use Rattle.rules.specs.Hierarchy.{pairs, supervisorOf, meets, onLoop, firstHost, loopHost, pairTable, hierarchyTable}
+use Rattle.rules.specs.Block.{otpTable, blockTable, blockVerdict}
 use Rattle.rules.specs.Role.{namesHost, roleTable, roleOf, permitted}
 use Rattle.rules.specs.Message.{answerAsked, kindOf, waitIn, subjectOf}
 use Rattle.rules.specs.Wait.{runAfter, endsRun, firstEnd, endingCheck, ranOut, checksOf, microsOf}
@@ -22,6 +24,7 @@ use Rattle.rules.specs.Cluster.{clustered}
 use Rattle.rules.specs.Boards.{hostsFrom, processorsFrom, boarded}
 use Rattle.rules.specs.Roles.{RoleCase, shownIn, roled}
 use Rattle.rules.specs.Waits.{counted}
+use Rattle.rules.specs.Blocks.{LoopCase, hierarchyOf, blocked, looped}
 
 -- every case of a table gives what it says
 abbrev pub Hold : List Case → Type 0
@@ -31,9 +34,13 @@ Hold cases = map (λ (c : Case). givenIn (run (fresh ours) (c .earlier)) (c .cal
 abbrev pub Shows : List RoleCase → Type 0
 Shows cases = map (λ (c : RoleCase). shownIn (run (fresh ours) (c .earlier)) (c .call)) cases ≡ map (λ (c : RoleCase). (c .outcome, c .role)) cases
 
-all-hold : Hold starred × Hold clustered × Hold boarded × Shows roled × Hold counted
-unfolding counted roled shownIn boarded hostsFrom processorsFrom nothingListed bodySize fieldGood noItem itemIn fieldSize itemsFrom itemsIn listsHost repeats otherClass isFull itemTable withItem itemsTable descriptionTable boardVerdict withItems descriptionIn described firstOf anyOf placeOf tableOf ours ourDescription listsProcessor markIn rowIn classIn sharedCluster sharedIn homeIn boardOf boardHost activeHost rowOf onBoard classAt classOf homeAt maskOf noEntry partsFrom namedIn entryTable inTurn contentTable listTable verdictOf accepted entryIn withPart withParts noEntries entriesOf hasEntry namesHost roleTable roleOf permitted answerAsked kindOf waitIn subjectOf runAfter endsRun firstEnd endingCheck ranOut checksOf microsOf senderWrong wordsMissing waitFailed admission byWords outcomeTable outcomeOf carriedOut silent recordAfter ackBytes bytesFor answerBytes answerOf waited tellsRole reportOf listed freeOwn fresh entryOf recordIn recordOf viewOf putIn stored verdictTo taken afterOffer afterMessage answerTo next run givenIn answerGiven starred clustered
-all-hold = (refl, refl, refl, refl, refl)
+-- and every case of the loops
+abbrev pub Finds : List LoopCase → Type 0
+Finds cases = map (λ (c : LoopCase). loopHost (pairs (hierarchyOf (c .entries)))) cases ≡ map (λ (c : LoopCase). c .host) cases
+
+all-hold : Hold starred × Hold clustered × Hold boarded × Shows roled × Hold counted × Hold blocked × Finds looped
+unfolding blocked looped supervisorOf meets onLoop firstHost loopHost pairTable hierarchyTable otpTable blockTable blockVerdict counted roled shownIn boarded hostsFrom processorsFrom nothingListed bodySize fieldGood noItem itemIn fieldSize itemsFrom itemsIn listsHost repeats otherClass isFull itemTable withItem itemsTable descriptionTable boardVerdict withItems descriptionIn described firstOf anyOf placeOf tableOf ours ourDescription listsProcessor markIn rowIn classIn sharedCluster sharedIn homeIn boardOf boardHost activeHost rowOf onBoard classAt classOf homeAt maskOf noEntry partsFrom namedIn entryTable inTurn contentTable listTable verdictOf accepted entryIn withPart withParts noEntries entriesOf hasEntry namesHost roleTable roleOf permitted answerAsked kindOf waitIn subjectOf runAfter endsRun firstEnd endingCheck ranOut checksOf microsOf senderWrong wordsMissing waitFailed admission byWords outcomeTable outcomeOf carriedOut silent recordAfter ackBytes bytesFor answerBytes answerOf waited tellsRole reportOf listed freeOwn fresh entryOf recordIn recordOf viewOf putIn stored verdictTo taken afterOffer afterMessage answerTo next run givenIn answerGiven starred clustered
+all-hold = (refl, refl, refl, refl, refl, refl, refl)
 
 pub starred-hold : Hold starred
 starred-hold = all-hold .0
@@ -53,3 +60,10 @@ roled-show = all-hold .3
 -- document 02, L9
 pub counted-hold : Hold counted
 counted-hold = all-hold .4
+
+-- document 02, L1
+pub blocked-hold : Hold blocked
+blocked-hold = all-hold .5
+
+pub looped-found : Finds looped
+looped-found = all-hold .6

@@ -24,3 +24,4 @@ pub mod Cluster
 pub mod Boards
 pub mod Roles
 pub mod Waits
+pub mod Blocks

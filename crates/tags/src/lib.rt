@@ -14,11 +14,9 @@ pub fn length_good(tag: u8, length: u16) -> bool
     ensures { λ r. ⌜ r ≡ lengthGood tag length ⌝ }
 {
     match tag {
-        1 => length <= 512,
+        1 | 4 | 6 => length <= 512,
         2 => (length <= 1020) & (length % 4 == 0),
         3 => (1 <= length) & (length <= 512),
-        4 => length <= 512,
-        6 => length <= 512,
         _ => false,
     }
 }

@@ -4,3 +4,4 @@ pub mod Steps
 pub mod Theorem
 pub mod OnTheBench
 pub mod OnThePack
+pub mod OnABlock

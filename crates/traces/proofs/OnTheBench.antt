@@ -38,7 +38,7 @@ abbrev bothR5 : List ℕ
 bothR5 = 1 ∷ 2 ∷ []
 
 -- the memories that the bench list leaves
-abbrev listed-memories : Memories
+abbrev pub listed-memories : Memories
 listed-memories = record { board = boardBytes ours; access = accessAfter ours (replicate 129 0) benchList; records = replicate 160 0 }
 
 bench-accepted : ListCall ours (replicate 129 0) benchList (accessAfter ours (replicate 129 0) benchList) Accepted
