@@ -5,7 +5,7 @@ ghost use Rattle.rules.specs.declared.Verdict.the-variants.{Accepted};
 ghost use Rattle.rules.specs.Table.{firstOf};
 ghost use Rattle.rules.specs.Block.{otpTable, blockVerdict, reportedHost};
 ghost use Rattle.board.specs.Memory.{boardIn};
-use hierarchy::verdict_alone;
+use reports::verdict_alone;
 use rules::BlockReport;
 use rules::Verdict;
 use wire::byte_at;

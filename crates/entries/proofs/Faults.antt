@@ -11,7 +11,7 @@ use mathlib.Core.Logic.{⊎-elim}
 use lib.ListN.{getD, drop}
 use lib.Seq.{getD-take, getD-drop}
 use lib.Dec.{eqb}
-use borrow.Author.Tests.{le-ltb, lt-ltb, eqb-true, ne-eqb}
+use borrow.Author.Tests.{le-ltb, lt-ltb, eqb-true, eq-eqb, ne-eqb}
 use Rattle.rules.specs.declared.Verdict.{Verdict}
 use Rattle.rules.specs.declared.Verdict.the-variants.{Accepted}
 use Rattle.rules.specs.Table.{Line, firstOf, anyOf}
@@ -24,11 +24,17 @@ use Rattle.entries.specs.Entries.{partsBefore, writtenBefore, verdictFro
 
 -- ---- A6 and B7: the entries before
 
--- the newest of the entries before i, where j is one less
-pub written-newest : (width : ℕ) (bytes : List ℕ) (i j n : ℕ) → i ≡ suc j
-    → writtenBefore width bytes i n ≡ (eqb (byteAt bytes (4 + width * j)) n || writtenBefore width bytes j n)
-unfolding writtenBefore
-written-newest width bytes i j n next = ap (λ (m : ℕ). writtenBefore width bytes m n) next
+-- the newest of the entries before i, where j is one less, and its first byte has been read
+module _ (width : ℕ) (bytes : List ℕ) (i j n : ℕ) {x : ℕ} (next : i ≡ suc j) (at : x ≡ byteAt bytes (4 + width * j)) where
+  newest : writtenBefore width bytes i n ≡ (eqb x n || writtenBefore width bytes j n)
+  unfolding writtenBefore
+  newest = ap (λ (m : ℕ). writtenBefore width bytes m n) next ∙ ap (λ (y : ℕ). eqb y n || writtenBefore width bytes j n) (sym at)
+
+  pub written-here : x ≡ n → writtenBefore width bytes i n ≡ true
+  written-here is = newest ∙ rw (eq-eqb x n is)
+
+  pub written-passed : (x ≡ n → ⊥) → writtenBefore width bytes i n ≡ writtenBefore width bytes j n
+  written-passed other = newest ∙ rw (ne-eqb x n other)
 
 -- an entry that has a number but 0 is used
 used-names : (part : List ℕ) (n : ℕ) → (n ≡ 0 → ⊥) → names n part ≡ eqb (numberIn part) n

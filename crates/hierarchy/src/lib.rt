@@ -11,18 +11,11 @@ ghost use Rattle.entries.specs.Entries.{partsBefore};
 use board::is_host;
 use entries::named_before;
 use loops::loop_host;
+use reports::verdict_alone;
 use rules::BlockReport;
 use rules::Verdict;
 use wire::byte_at;
 use wire::u16_at;
-
-// A verdict that reports no host.
-pub fn verdict_alone(verdict: Verdict) -> BlockReport
-    ensures { λ r. ⌜ r .verdict ≡ verdict ⌝ }
-    ensures { λ r. ⌜ r .host ≡ 0 ⌝ }
-{
-    BlockReport { verdict, host: 0 }
-}
 
 // B5 to B7 of entry `e`, after the entries before it. Supervisor 0 is a board host. Of an unused entry the
 // supervisor is not looked at.

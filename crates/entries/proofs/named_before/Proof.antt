@@ -4,9 +4,8 @@ use Prim.Native.Nat.{_*_, _≤_, _-_}
 use mathlib.Core.Path.{_≡_, refl, sym, _∙_}
 use native.Mathlib.Omega.{arith}
 use borrow.Author.Needs.{needs}
-use borrow.Author.Tests.{eq-eqb, ne-eqb}
 use Rattle.entries.specs.Entries.{writtenBefore}
-use Rattle.entries.proofs.Faults.{written-newest, place-small}
+use Rattle.entries.proofs.Faults.{written-here, written-passed, place-small}
 use Rattle.entries.proofs.named_before.Statement.{statement}
 use Rattle.entries.proofs.named_before.Tie as tie
 
@@ -44,8 +43,7 @@ returns c =
     let given = c .before .before .before .before .before .args in
     sym
     (c .before .before .before .loop .inv .1
-    ∙ written-newest (given .width) (given .bytes .now) i (i - 1) (given .number) (omega arith)
-    ∙ rw (eq-eqb _ _ (sym (c .before .byte-at .ensures) ∙ c .if1 .taken)))
+    ∙ written-here (given .width) (given .bytes .now) i (i - 1) (given .number) (omega arith) (c .before .byte-at .ensures) (c .if1 .taken))
 
 loop-less : tie.Need-loop-less Inv-loop μ-loop
 loop-less c = omega arith
@@ -56,8 +54,7 @@ loop-again c =
     let given = c .before .before .before .before .before .args in (
       omega arith,
       c .before .before .before .loop .inv .1
-          ∙ written-newest (given .width) (given .bytes .now) i (i - 1) (given .number) (omega arith)
-          ∙ rw (ne-eqb _ _ (λ e. c .if1 .left (c .before .byte-at .ensures ∙ e))),
+          ∙ written-passed (given .width) (given .bytes .now) i (i - 1) (given .number) (omega arith) (c .before .byte-at .ensures) (c .if1 .left),
     )
 
 returns-2 : tie.Need-returns-2 Inv-loop μ-loop
