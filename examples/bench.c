@@ -11,8 +11,9 @@
  *     OK request of 1 by host 3: recovery master
  *     N7 request of 1 by host 5: secondary 0
  *
- * With an argument it first describes the largest board, 64 hosts and 32 processors, and prints
- * `board OK` before these lines: the session is the same there.
+ * With the argument `largest` it first describes the largest board, 64 hosts and 32 processors, and prints
+ * `board OK` before these lines: the session is the same there. With the argument `block` it offers the
+ * list in a block and prints `block OK` for its first line.
  *
  * Build it from the repository's root, after `rt staticlib pomrozek`:
  *
@@ -20,6 +21,7 @@
  *         target/staticlib/libpomrozek.a -o bench
  */
 #include <stdio.h>
+#include <string.h>
 
 #include "pomrozek.h"
 
@@ -40,13 +42,15 @@ static const uint8_t request_by_3[] = {0x00, 0xC0, 3, 7, 2, 0, 0, 0, 1};
 static const uint8_t request_by_5[] = {0x00, 0xC0, 5, 1, 2, 0, 0, 0, 1};
 static const uint8_t release_by_3[] = {0x01, 0xC0, 3, 8, 0, 0, 0, 0, 1};
 
-/* Prints a verdict's name: OK, A1 to A8, or D1 to D6 for the numbers above 200. */
+/* Prints a verdict's name: OK, A1 to A8, B1 to B10 for the numbers above 100, D1 to D6 above 200. */
 static void print_verdict(uint32_t verdict)
 {
     if (verdict == POMROZEK_ACCEPTED)
         printf("OK");
     else if (verdict > 200)
         printf("D%u", (unsigned)(verdict - 200));
+    else if (verdict > 100)
+        printf("B%u", (unsigned)(verdict - 100));
     else
         printf("A%u", (unsigned)verdict);
 }
@@ -131,6 +135,29 @@ static void offer(const uint8_t *list, size_t length)
 }
 
 /*
+ * Offers the list in a block and prints the verdict, and with B8 the host. In its hierarchy hosts 5 and 6
+ * have supervisor 3, which has 10; the OTP part holds nothing.
+ */
+static void offer_block(const uint8_t *list)
+{
+    static const uint8_t hierarchy[] = {0x27, 0x8D, 68, 0, 5, 3, 6, 3, 3, 10};
+    static const uint8_t otp[] = {0x81, 0x40, 69, 0};
+    uint8_t block[POMROZEK_BLOCK_BYTES] = {0, 1}; /* the ABI bytes */
+    uint32_t loop[POMROZEK_LOOP_WORDS];
+    uint32_t verdict;
+
+    memcpy(block + 2, list, POMROZEK_LIST_BYTES);
+    memcpy(block + 294, hierarchy, sizeof hierarchy);
+    memcpy(block + 362, otp, sizeof otp);
+    verdict = pomrozek_block(board_memory, access_memory, 0, 1, block, sizeof block, loop);
+    printf("block ");
+    print_verdict(verdict);
+    if (verdict == POMROZEK_B8)
+        printf(" %u", (unsigned)loop[0]);
+    printf("\n");
+}
+
+/*
  * Sends one message from the queue of host `channel`, prints outcome, checks, microseconds and answer,
  * and logs a request. These messages need no status word: the pointer is valid, the length 0.
  */
@@ -153,11 +180,15 @@ static void deliver(uint8_t channel, const uint8_t *message, size_t length)
 
 int main(int argc, char **argv)
 {
-    (void)argv;
+    const char *mode = argc > 1 ? argv[1] : "";
+
     pomrozek_start(board_memory); /* document 01's board */
-    if (argc > 1)
+    if (strcmp(mode, "largest") == 0)
         describe();
-    offer(bench_list, sizeof bench_list);
+    if (strcmp(mode, "block") == 0)
+        offer_block(bench_list);
+    else
+        offer(bench_list, sizeof bench_list);
     deliver(3, request_by_3, sizeof request_by_3); /* free and permitted: granted */
     deliver(5, request_by_5, sizeof request_by_5); /* held by 3, and 5 is no recovery master: N7 */
     deliver(3, release_by_3, sizeof release_by_3); /* carried out; flag bit 1 is clear: no answer */

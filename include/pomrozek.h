@@ -1,5 +1,5 @@
 /*
- * Pomrozek: a manager of processor boot that speaks TISCI messages. Four calls over memory that the
+ * Pomrozek: a manager of processor boot that speaks TISCI messages. Five calls over memory that the
  * caller lends. x86-64 System V; link target/staticlib/libpomrozek.a (`rt staticlib pomrozek`).
  *
  * Memory. The caller owns every array. A call reads and writes what it is lent and keeps no pointer
@@ -50,8 +50,8 @@ extern "C" {
 #define POMROZEK_BOARD_HOMES 544   /* the home of row r is byte 544 + r */
 
 /*
- * The access memory, in words of 16 bits. Word 0 is 0 until a list is accepted. Then four words for
- * each row, from word 1 + 4 * row on: recovery master (0: no entry) and three secondaries (0:
+ * The access memory, in words of 16 bits. Word 0 is 0 until a list is accepted, alone or in a block;
+ * which of the two is not kept. Then four words for each row, from word 1 + 4 * row on: recovery master (0: no entry) and three secondaries (0:
  * unused).
  */
 #define POMROZEK_ACCESS_WORDS 129
@@ -71,17 +71,24 @@ extern "C" {
 /* The longest answer, and the shortest answer buffer that is not refused (R1). */
 #define POMROZEK_ANSWER_BYTES 29
 
-/* The one length of an access list. */
+/* The one length of an access list, and that of a security board configuration, here called a block. */
 #define POMROZEK_LIST_BYTES 292
+#define POMROZEK_BLOCK_BYTES 431
+
+/* The loop host of a block call. */
+#define POMROZEK_LOOP_WORDS 1
 
 /*
  * What pomrozek_list gives: 0, or k for Ak. A1 to A4 are tested in this order, then entries 0 to
- * 31, each A5 to A8. What pomrozek_board gives: 0, A1, or 200 + k for Dk. A1 is tested first, then for
- * each item in turn D1 to D6 in this order. The first fault is reported.
+ * 31, each A5 to A8. What pomrozek_block gives: 0, k for Ak, or 100 + k for Bk, tested in this order: A1,
+ * B1, B2; of the list inside A3 to A8, as above; of the hierarchy B3, B4, for each used entry in turn B5,
+ * B6, B7, and after the last one B8; of the OTP part B9, B10. What pomrozek_board gives: 0, A1, or 200 + k
+ * for Dk. A1 is tested first, then for each item in turn D1 to D6 in this order. The first fault is
+ * reported.
  */
 enum pomrozek_verdict {
-    POMROZEK_ACCEPTED = 0, /* the list, or the board, is in force from now on */
-    POMROZEK_A1 = 1,       /* a list was accepted before, whatever the new one holds */
+    POMROZEK_ACCEPTED = 0, /* the list, the block's list, or the board is in force from now on */
+    POMROZEK_A1 = 1,       /* a list or a block was accepted before, whatever the new one holds */
     POMROZEK_A2 = 2,       /* length is not 292 */
     POMROZEK_A3 = 3,       /* magic is not 0xF1EA */
     POMROZEK_A4 = 4,       /* size field is not 292 */
@@ -89,6 +96,16 @@ enum pomrozek_verdict {
     POMROZEK_A6 = 6,       /* an entry's processor is named by an earlier used entry */
     POMROZEK_A7 = 7,       /* an entry's recovery master is not a board host, or is 0 */
     POMROZEK_A8 = 8,       /* an entry's secondary is neither 0 nor a board host */
+    POMROZEK_B1 = 101,     /* a block's length is not 431 */
+    POMROZEK_B2 = 102,     /* its ABI bytes are not the two that the caller names */
+    POMROZEK_B3 = 103,     /* the hierarchy's magic is not 0x8D27 */
+    POMROZEK_B4 = 104,     /* its size field is not 68 */
+    POMROZEK_B5 = 105,     /* an entry's host is not a board host */
+    POMROZEK_B6 = 106,     /* an entry's supervisor is not a board host; 0 is one */
+    POMROZEK_B7 = 107,     /* an entry's host is named by an earlier used entry */
+    POMROZEK_B8 = 108,     /* following supervisors runs in a loop */
+    POMROZEK_B9 = 109,     /* the OTP part's magic is not 0x4081 */
+    POMROZEK_B10 = 110,    /* its size field is not 69 */
     POMROZEK_D1 = 201,     /* an item has a bad tag or length, or is cut off */
     POMROZEK_D2 = 202,     /* its number is 0 */
     POMROZEK_D3 = 203,     /* an earlier item of its kind has its number */
@@ -105,7 +122,7 @@ enum pomrozek_verdict {
 enum pomrozek_outcome {
     POMROZEK_R1 = 101, /* answer buffer shorter than 29 bytes */
     POMROZEK_R2 = 102, /* message shorter than 8 bytes or longer than 60 */
-    POMROZEK_N1 = 1,   /* no access list accepted yet */
+    POMROZEK_N1 = 1,   /* no access list accepted yet, alone or in a block */
     POMROZEK_N2 = 2,   /* channel host not a board host, or 0, or unlike the header's host */
     POMROZEK_N3 = 3,   /* message type not one of the eight */
     POMROZEK_N4 = 4,   /* message shorter than its structure */
@@ -162,7 +179,8 @@ void pomrozek_start(uint8_t board[POMROZEK_BOARD_BYTES]);
  * host 0 alone.
  *
  * board            the board memory; changed only if the description is taken, and then whole
- * access           the access memory, only read: once a list is accepted every description gets A1
+ * access           the access memory, only read: once a list or a block is accepted every description
+ *                  gets A1
  * description      the description's bytes, only read
  * description_len  their number; any
  *
@@ -178,13 +196,35 @@ uint32_t pomrozek_board(uint8_t board[POMROZEK_BOARD_BYTES],
  * board     the board memory, only read
  * access    the access memory; changed only if the list is accepted
  * list      the list's bytes, only read
- * list_len  their number; any number but 292 gets A2, or A1 once a list is in force
+ * list_len  their number; any number but 292 gets A2, or A1 once a list is in force, alone or in a block
  *
  * Returns the verdict, by enum pomrozek_verdict. A refused list changes nothing.
  */
 uint32_t pomrozek_list(const uint8_t board[POMROZEK_BOARD_BYTES],
                        uint16_t access[POMROZEK_ACCESS_WORDS], const uint8_t *list,
                        size_t list_len);
+
+/*
+ * Offers a security board configuration: two ABI bytes, the access list at 2, the host hierarchy at 294
+ * (magic 0x8D27, size 68, 32 pairs of host and supervisor, host 0 for an unused one) and the OTP part at
+ * 362 (magic 0x4081, size 69, 65 bytes that are not judged). Of a good one the list is in force from now
+ * on, exactly as pomrozek_list would leave it; nothing else of it is kept or used.
+ *
+ * board       the board memory, only read
+ * access      the access memory; changed only if the block is accepted
+ * abi_first   the first ABI byte that the block must have, TI's boardcfg_abi_maj
+ * abi_second  the second, TI's boardcfg_abi_min
+ * block       the block's bytes, only read
+ * block_len   their number; any number but 431 gets B1, or A1 once a list is in force
+ * loop        written by every call: with B8 the first host in entry order that lies on a loop, and not
+ *             only on a way into one; with any other verdict 0
+ *
+ * Returns the verdict, by enum pomrozek_verdict. A refused block changes nothing but the loop word.
+ */
+uint32_t pomrozek_block(const uint8_t board[POMROZEK_BOARD_BYTES],
+                        uint16_t access[POMROZEK_ACCESS_WORDS], uint8_t abi_first,
+                        uint8_t abi_second, const uint8_t *block, size_t block_len,
+                        uint32_t loop[POMROZEK_LOOP_WORDS]);
 
 /*
  * Carries out one message.
