@@ -1,5 +1,5 @@
 /*
- * Pomrozek: a manager of processor boot that speaks TISCI messages. Five calls over memory that the
+ * Pomrozek: a manager of processor boot that speaks TISCI messages. Five functions over memory that the
  * caller lends. x86-64 System V; link target/staticlib/libpomrozek.a (`rt staticlib pomrozek`).
  *
  * Memory. The caller owns every array. A call reads and writes what it is lent and keeps no pointer
@@ -51,8 +51,8 @@ extern "C" {
 
 /*
  * The access memory, in words of 16 bits. Word 0 is 0 until a list is accepted, alone or in a block;
- * which of the two is not kept. Then four words for each row, from word 1 + 4 * row on: recovery master (0: no entry) and three secondaries (0:
- * unused).
+ * which of the two is not kept. Then four words for each row, from word 1 + 4 * row on: recovery master
+ * (0: no entry) and three secondaries (0: unused).
  */
 #define POMROZEK_ACCESS_WORDS 129
 
@@ -219,7 +219,8 @@ uint32_t pomrozek_list(const uint8_t board[POMROZEK_BOARD_BYTES],
  * loop        written by every call: with B8 the first host in entry order that lies on a loop, and not
  *             only on a way into one; with any other verdict 0
  *
- * Returns the verdict, by enum pomrozek_verdict. A refused block changes nothing but the loop word.
+ * Returns the verdict, by enum pomrozek_verdict. A refused block changes nothing but the loop word. The
+ * call uses a table of 256 bytes on the stack.
  */
 uint32_t pomrozek_block(const uint8_t board[POMROZEK_BOARD_BYTES],
                         uint16_t access[POMROZEK_ACCESS_WORDS], uint8_t abi_first,

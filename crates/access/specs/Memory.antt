@@ -1,5 +1,5 @@
--- The access memory, 129 words of 16 bits, read as the rules have it. Word 0 is not 0 once a list was accepted. Then each of 32 rows has four
--- words: the recovery master and the three secondaries; zeros are no entry. Any content is a state. Assumes nothing.
+-- The access memory, 129 words of 16 bits, read as the rules have it. Word 0 is not 0 once a list was accepted, alone or in a block. Then each of 32
+-- rows has four words: the recovery master and the three secondaries; zeros are no entry. Any content is a state. Assumes nothing.
 use Prim.Native.Nat.{ℕ, _+_, _*_}
 use mathlib.Core.Bool.{Bool, not, cond}
 use mathlib.Core.List.{List, []}
@@ -31,7 +31,8 @@ entryAt m row =
 unfoldable pub entriesIn : List ℕ → List Entry
 entriesIn m = tableOf (entryAt m) 0 rows
 
--- that a list was accepted, without its bytes: the memory does not keep them, and no outcome, answer or record depends on them
+-- that a list was accepted, alone or in a block, without the bytes: the memory does not keep them, and no outcome, answer or record depends on
+-- them
 unfoldable pub someList : Bool → Source
 someList taken = cond taken (aList []) nothing
 

@@ -1,5 +1,5 @@
-// The access memory, asked whether a list was accepted and for the role of a host at a row. Its layout
-// is specs/Memory.antt; any content of it is a state. Hosts are 16-bit numbers throughout.
+// The access memory, asked whether a list was accepted, alone or in a block, and for the role of a host at a
+// row. Its layout is specs/Memory.antt; any content of it is a state. Hosts are 16-bit numbers throughout.
 ghost use mathlib.Core.Path.{_≡_};
 ghost use mathlib.Core.Bool.{cond};
 ghost use lib.ListN.{getD};
@@ -21,7 +21,7 @@ fn word_at(access: &[u16], i: usize) -> u16
     0
 }
 
-// Whether a list was accepted.
+// Whether a list was accepted, alone or in a block.
 pub fn is_listed(access: &[u16]) -> bool
     ensures { λ r. ⌜ r ≡ listedIn (now (access .entry)) ⌝ }
 {

@@ -169,8 +169,8 @@ pub fn start(board: &mut [u8; 576])
     fill(board, &OURS);
 }
 
-// The board call: judges first, and on a refusal writes nothing. `listed` says whether an access
-// list was accepted before.
+// The board call: judges first, and on a refusal writes nothing. `listed` says whether a list or a
+// block was accepted before.
 pub fn offer_board(board: &mut [u8; 576], listed: bool, description: &[u8]) -> Verdict
     ensures verdict { λ r. ⌜ r ≡ boardVerdict listed (now (description .entry)) ⌝ }
     ensures memory { λ _. ⌜ now (board .exit) ≡ boardAfter (now (board .entry)) listed (now (description .entry)) ⌝ }

@@ -123,7 +123,7 @@ fn fault_of(item: Item, before: Before) -> Verdict
     Verdict::Accepted
 }
 
-// What a description comes to, where `listed` says whether a list was accepted before. The first
+// What a description comes to, where `listed` says whether a list or a block was accepted before. The first
 // fault is reported: a field that is not good ends the search, so what is behind it is never read.
 pub fn judge(listed: bool, description: &[u8]) -> Verdict
     ensures { λ r. ⌜ r ≡ boardVerdict listed (now (description .entry)) ⌝ }

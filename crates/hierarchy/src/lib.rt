@@ -69,12 +69,12 @@ pub fn judge(board: &[u8; 576], bytes: &[u8]) -> BlockReport
         Verdict::Accepted => {}
         fault => return verdict_alone(fault),
     }
-    let host = loop_host(bytes);
-    if host == 0 {
+    let found = loop_host(bytes);
+    if found == 0 {
         return verdict_alone(Verdict::Accepted);
     }
     BlockReport {
         verdict: Verdict::B8,
-        host,
+        host: found,
     }
 }

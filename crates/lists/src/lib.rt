@@ -10,8 +10,8 @@ use rules::Verdict;
 use wire::byte_at;
 use wire::u16_at;
 
-// What a list comes to, where `listed` says whether one was accepted before. The first fault is
-// reported: the search stops at the first bad secondary of the first bad entry.
+// What a list comes to, where `listed` says whether a list or a block was accepted before. The first
+// fault is reported: the search stops at the first bad secondary of the first bad entry.
 pub fn judge(board: &[u8; 576], listed: bool, list: &[u8]) -> Verdict
     ensures { λ r. ⌜ r ≡ verdictOf (boardIn (now (board .entry))) listed (now (list .entry)) ⌝ }
 {

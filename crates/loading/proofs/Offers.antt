@@ -3,7 +3,7 @@
 use Prim.Native.Nat.{ℕ}
 use mathlib.Core.Path.{_≡_, refl, sym, ap, _∙_}
 use mathlib.Core.Bool.{Bool, true, cond}
-use mathlib.Core.List.{List, _∷_}
+use mathlib.Core.List.{List}
 use mathlib.Core.Logic.{⊎-elim}
 use Rattle.rules.specs.declared.Verdict.{Verdict}
 use Rattle.rules.specs.Board.{Board}
@@ -12,6 +12,7 @@ use Rattle.rules.specs.AccessList.{Entry, entriesOf, verdictOf}
 use Rattle.rules.specs.Block.{listPart, blockVerdict}
 use Rattle.rules.specs.State.{listed, Records, State}
 use Rattle.rules.specs.Call.{Offer, list, block, verdictTo, taken, afterOffer}
+use Rattle.rules.proofs.Blocks.{good-block}
 use Rattle.rules.proofs.Tests.{decide, cond-true, cond-false}
 use Rattle.access.specs.Memory.{listedIn, entriesIn, someList, setupIn, keptSetup}
 use Rattle.access.proofs.Kept.{listed-some}
@@ -64,3 +65,14 @@ module _ (b : Board) (m : List ℕ) (records : Records) where
   unfolding accessAfterBlock taken setupIn keptSetup listed
   setup-after-block major minor bytes =
       after-offer (block major minor bytes) (listPart bytes) (blockVerdict b (listedIn m) major minor bytes) (block-told major minor bytes) refl
+
+-- an accepted block leaves the memory that its lone list would
+pub block-memory : (b : Board) (m : List ℕ) (major minor : ℕ) (bytes : List ℕ) → accepted (blockVerdict b (listedIn m) major minor bytes) ≡ true
+    → accessAfterBlock b m major minor bytes ≡ accessAfter b m (listPart bytes)
+unfolding accessAfter accessAfterBlock
+block-memory b m major minor bytes ok =
+    let good = good-block b (listedIn m) major minor bytes ok in
+    let alone : accepted (verdictOf b (listedIn m) (listPart bytes)) ≡ true =
+    ap (λ (x : Bool). accepted (verdictOf b x (listPart bytes))) (good .nothing-before) ∙ good .list-good
+    in
+    cond-true (inForce b (listPart bytes)) m ok ∙ sym (cond-true (inForce b (listPart bytes)) m alone)

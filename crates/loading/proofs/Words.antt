@@ -19,11 +19,11 @@ use Rattle.rules.specs.Bytes.{u16At}
 use Rattle.rules.specs.Board.{Board, rows, rowOf, onBoard}
 use Rattle.rules.specs.Verdict.{accepted}
 use Rattle.rules.specs.Substructure.{partAt, partsFrom, used}
-use Rattle.rules.specs.AccessList.{Entry, noEntry, processorIn, masterIn, secondariesIn, entryIn, withPart, withParts, noEntries, entriesOf, verdictOf}
+use Rattle.rules.specs.AccessList.{Entry, noEntry, processorIn, masterIn, secondariesIn, entryIn, withPart, withParts, noEntries, entriesOf}
 use Rattle.rules.proofs.Tests.{decide, cond-true, cond-false}
 use Rattle.rules.proofs.Verdicts.{not-accepted}
 use Rattle.access.specs.Memory.{listedIn, entryPlace, entryAt, entriesIn}
-use Rattle.loading.specs.Loaded.{wordsOf, accessAfter, putEntry, entriesBefore}
+use Rattle.loading.specs.Loaded.{wordsOf, putEntry, entriesBefore}
 
 -- n entries of four words each
 data Rows : ℕ → List Entry → Type 0 where

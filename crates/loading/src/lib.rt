@@ -95,7 +95,7 @@ pub fn offer_block(
     let report = blocks::judge(board, is_listed(memory), major, minor, block);
     let verdict = report.verdict;
     match verdict {
-        Verdict::Accepted => {}
+        Verdict::Accepted => (),
         _ => return report,
     }
     load(board, memory, &block[2..294]);

@@ -1,6 +1,6 @@
 -- The calls over plain lists: what their steps leave is what the rules give. Assumes nothing.
 use Prim.Native.Nat.{ℕ, _≤_, _<_}
-use mathlib.Core.Path.{_≡_, refl, sym, ap, _∙_}
+use mathlib.Core.Path.{_≡_, refl, sym, ap, _∙_, subst⁻¹}
 use mathlib.Core.Bool.{Bool, true, false}
 use mathlib.Core.List.{List}
 use mathlib.Core.Logic.{⊎-elim}
@@ -12,12 +12,16 @@ use Rattle.rules.specs.declared.Kind.{Kind}
 use Rattle.rules.specs.declared.Outcome.{Outcome}
 use Rattle.rules.specs.declared.Outcome.the-variants.{R1}
 use Rattle.rules.specs.declared.Record.{Record}
+use Rattle.rules.specs.declared.BlockReport.{BlockReport}
 use Rattle.rules.specs.declared.Report.{Report}
 use Rattle.rules.specs.declared.Verdict.{Verdict}
+use Rattle.rules.specs.declared.Verdict.the-variants.{Accepted, B8}
 use Rattle.rules.specs.Table.{firstOf}
 use Rattle.rules.specs.Board.{Board, rows, rowOf, onBoard}
 use Rattle.rules.specs.Description.{boardVerdict, descriptionIn, described}
 use Rattle.rules.specs.Verdict.{accepted}
+use Rattle.rules.specs.Hierarchy.{pairs, Ends, FirstOnLoop}
+use Rattle.rules.specs.Block.{hierarchyPart, reportedHost}
 use Rattle.rules.specs.Message.{Query, query, kindIn, subjectOf}
 use Rattle.rules.specs.Outcome.{View, admission, outcomeTable, outcomeOf, carriedOut}
 use Rattle.rules.specs.Effect.{effectOf, recordAfter}
@@ -26,6 +30,7 @@ use Rattle.rules.specs.State.{Setup, State, viewOf, putIn, stored}
 use Rattle.rules.specs.Call.{Offer, board, list, block, verdictTo, taken, afterOffer, afterMessage, answerTo, offer, next}
 use Rattle.rules.proofs.Tests.{decide, cond-true, cond-false}
 use Rattle.rules.proofs.Rights.{allowed}
+use Rattle.rules.proofs.Blocks.{accepted-ends, B8-first}
 use Rattle.board.specs.Memory.{boardIn}
 use Rattle.board.proofs.Read.{board-back}
 use Rattle.boards.specs.Filled.{boardAfter}
@@ -40,7 +45,7 @@ use Rattle.operations.specs.Operation.{asked, rowIn, memoryAfter, decisionOn}
 use Rattle.replies.specs.Puts.{fitted, Puts}
 use Rattle.replies.proofs.Answers.{fitted-none, bytes-silent, bytes-short, bytes-after}
 use Rattle.manager.specs.Decision.{Decides}
-use Rattle.manager.specs.Calls.{BoardCall, lending, MessageCall}
+use Rattle.manager.specs.Calls.{BlockCall, BoardCall, lending, MessageCall}
 
 -- ---- every answer fits
 
@@ -231,3 +236,18 @@ board-call m a bytes m′ read told left =
       memory-after = after;
       state = λ records. ap (λ (l : List ℕ). stateIn (boardIn l) a records) after ∙ board-state m a bytes records;
     }
+
+-- ---- what the block call tells
+
+module _ {b : Board} {a : List ℕ} {major minor : ℕ} {bytes a′ : List ℕ} {r : BlockReport} (call : BlockCall b a major minor bytes a′ r) where
+  -- of a block that it accepts: from every host, following supervisors ends
+  pub block-ends : r .verdict ≡ Accepted → (h : ℕ) → Ends (pairs (hierarchyPart bytes)) h
+  unfolding accepted
+  block-ends good h = accepted-ends b (listedIn a) major minor bytes (ap accepted (sym (call .verdict) ∙ good)) h
+
+  -- with B8 the host: the first in entry order that lies on a loop
+  pub block-first : r .verdict ≡ B8 → FirstOnLoop (pairs (hierarchyPart bytes)) (r .host)
+  block-first is =
+      let told = sym (call .verdict) ∙ is in
+      subst⁻¹ (FirstOnLoop (pairs (hierarchyPart bytes))) (call .host ∙ ap (λ (v : Verdict). reportedHost v bytes) told)
+      (B8-first b (listedIn a) major minor bytes told)

@@ -1,6 +1,6 @@
-// The board call, the list call, the block call and the message call. A message is tested by the outcome table of
-// document 01, row by row: first the rows that every message passes alike, then those of its type, which
-// also change the record. The answer is written last.
+// The board call, the list call, the block call and the message call. A message is tested by the outcome
+// table of document 01, row by row: first the rows that every message passes alike, then those of its
+// type, which also change the record. The answer is written last.
 ghost use mathlib.Core.Path.{_≡_};
 ghost use Rattle.rules.specs.declared.Outcome.the-variants.{Ok};
 ghost use Rattle.rules.specs.Description.{ours};
@@ -27,8 +27,8 @@ pub fn start(board: &mut [u8; 576])
     boards::start(board)
 }
 
-// Offers a board description. Before a list is accepted a good one is taken, and its board replaces the
-// one before it whole; a refused one changes nothing.
+// Offers a board description. Before a list or a block is accepted a good one is taken, and its board
+// replaces the one before it whole; a refused one changes nothing.
 pub fn offer_board(board: &mut [u8; 576], access: &[u16; 129], description: &[u8]) -> Verdict
     ensures { λ r. ⌜ BoardCall (now (board .entry)) (now (access .entry)) (now (description .entry)) (now (board .exit)) r ⌝ }
 {

@@ -1,6 +1,6 @@
 // The manager of processor boot: the board call, the list call, the block call and the message call, over
-// memory that the caller lends. The start fills the board memory; access and record memory that are all zeros are a fresh
-// manager's. Any content is a state.
+// memory that the caller lends. The start fills the board memory; access and record memory that are all
+// zeros are a fresh manager's. Any content is a state.
 mod calls;
 
 pub use calls::message;

@@ -139,7 +139,7 @@ boardLeft b (offer (list bytes) ∷ cs) = boardLeft b cs
 boardLeft b (offer (block major minor bytes) ∷ cs) = boardLeft b cs
 boardLeft b (message lent ∷ cs) = boardLeft b cs
 
--- they leave nothing else, so that start depends on that board and the list alone
+-- they leave nothing else, so that start depends on that board and on the list or block alone
 abbrev pub NoTrace : Type 0
 NoTrace =
     (calls : List Call)

@@ -44,7 +44,7 @@ pub extern "C" fn pomrozek_list(board: &[u8; 576], access: &mut [u16; 129], list
 }
 
 // Offers a security board configuration that must have these ABI bytes, and gives the verdict's number: 0
-// accepted, k for Ak, 100 + k for Bk. The host of B8 goes to `loop`, and 0 with any other verdict.
+// accepted, k for Ak, 100 + k for Bk. The host of B8 goes to `found`, and 0 with any other verdict.
 #[no_mangle]
 pub extern "C" fn pomrozek_block(
     board: &[u8; 576],

@@ -12,13 +12,14 @@ use borrow.Author.Tests.{eqb-true, eq-eqb, ne-eqb, not-false}
 use Rattle.rules.specs.declared.Verdict.{Verdict}
 use Rattle.rules.specs.declared.Verdict.the-variants.{Accepted, A1, A3, A4, A5, A6, A7, A8, B1, B2, B3, B4, B5, B6, B7, B8}
 use Rattle.rules.specs.Table.{Line, _gives_, firstOf}
+use Rattle.rules.specs.Bytes.{byteAt}
 use Rattle.rules.specs.Verdict.{verdictNumber, accepted}
 use Rattle.rules.specs.Board.{Board}
 use Rattle.rules.specs.Substructure.{inTurn}
 use Rattle.rules.specs.AccessList.{entryTable, contentTable, listTable, verdictOf, parts}
 use Rattle.rules.specs.Hierarchy.{pairs, loopHost, pairTable, hierarchyTable, loopReported, Ends, FirstOnLoop}
-use Rattle.rules.specs.Block.{listPart, hierarchyPart, otpPart, otpTable, blockTable, blockVerdict, reportedHost}
-use Rattle.rules.proofs.Tests.{clash, firstOf-append, cleared, passed, skipped, noneGood, none-append, none-falls}
+use Rattle.rules.specs.Block.{listPart, hierarchyPart, otpPart, abiGood, otpTable, blockTable, blockVerdict, reportedHost}
+use Rattle.rules.proofs.Tests.{clash, and-left, and-right, firstOf-append, cleared, passed, skipped, noneGood, none-append, none-falls}
 use Rattle.rules.proofs.Hierarchy.{none-ends, reported-first}
 
 -- ---- lines that give no good answer, where neither of A1 to A8 nor of B1 to B7 is one
@@ -99,7 +100,7 @@ module _ (good : Verdict → Bool) (off : (v : Verdict) → 0 < verdictNumber v 
   behind = hierarchyTable b part ++ otpTable (otpPart bytes)
 
   -- A1, B1 and B2 are passed
-  past-first : (listed ≡ false) × (length bytes ≡ 431) × (good (firstOf Accepted (content ++ behind)) ≡ true)
+  past-first : (listed ≡ false) × (length bytes ≡ 431) × (abiGood major minor bytes ≡ true) × (good (firstOf Accepted (content ++ behind)) ≡ true)
   unfolding blockVerdict blockTable
   past-first =
       let a1 = passed good Accepted _ _ _ (off A1 (lit< tt) (lit< tt)) comes in
@@ -107,6 +108,7 @@ module _ (good : Verdict → Bool) (off : (v : Verdict) → 0 < verdictNumber v 
         cleared good Accepted _ _ _ (off A1 (lit< tt) (lit< tt)) comes,
         eqb-true (length bytes) 431
             (not-false (eqb (length bytes) 431) (cleared good Accepted _ _ _ (off B1 (lit< tt) (lit< tt)) a1)),
+        not-false (abiGood major minor bytes) (cleared good Accepted _ _ _ (off B2 (lit< tt) (lit< tt)) b1),
         passed good Accepted _ _ _ (off B2 (lit< tt) (lit< tt)) b1,
       )
 
@@ -114,13 +116,13 @@ module _ (good : Verdict → Bool) (off : (v : Verdict) → 0 < verdictNumber v 
   content-falls : (v : Verdict) → firstOf v content ≡ v
   content-falls v =
       none-falls good (firstOf Accepted behind) v content (content-none good off b (listPart bytes))
-      (subst (λ (w : Verdict). good w ≡ true) (firstOf-append Accepted content behind) (past-first .2))
+      (subst (λ (w : Verdict). good w ≡ true) (firstOf-append Accepted content behind) (past-first .3))
 
   past-content : good (firstOf Accepted behind) ≡ true
   past-content =
       subst (λ (w : Verdict). good w ≡ true)
       (firstOf-append Accepted content behind ∙ content-falls (firstOf Accepted behind))
-      (past-first .2)
+      (past-first .3)
 
   -- and the hierarchy's up to the loop
   past-pairs : good (firstOf Accepted (loopLine ++ otpTable (otpPart bytes))) ≡ true
@@ -143,8 +145,20 @@ module _ (good : Verdict → Bool) (off : (v : Verdict) → 0 < verdictNumber v 
 pub record GoodBlock (b : Board) (listed : Bool) (bytes : List ℕ) : Type 0 where
   pub nothing-before : listed ≡ false
   pub size : length bytes ≡ 431
+  pub own-bytes : accepted (blockVerdict b false (byteAt bytes 0) (byteAt bytes 1) bytes) ≡ true
   pub list-good : accepted (verdictOf b false (listPart bytes)) ≡ true
   pub no-loop : loopHost (pairs (hierarchyPart bytes)) ≡ 0
+
+-- with the ABI bytes that it has
+own-accepted : (b : Board) (listed : Bool) (major minor : ℕ) (bytes : List ℕ) → listed ≡ false → abiGood major minor bytes ≡ true
+    → accepted (blockVerdict b listed major minor bytes) ≡ true → accepted (blockVerdict b false (byteAt bytes 0) (byteAt bytes 1) bytes) ≡ true
+own-accepted b listed major minor bytes none abi ok =
+    let first = eqb-true (byteAt bytes 0) major (and-left (eqb (byteAt bytes 0) major) (eqb (byteAt bytes 1) minor) abi) in
+    let second = eqb-true (byteAt bytes 1) minor (and-right (eqb (byteAt bytes 0) major) (eqb (byteAt bytes 1) minor) abi) in
+    ap (λ (x : Bool). accepted (blockVerdict b x (byteAt bytes 0) (byteAt bytes 1) bytes)) (sym none)
+    ∙ ap (λ (x : ℕ). accepted (blockVerdict b listed x (byteAt bytes 1) bytes)) first
+    ∙ ap (λ (x : ℕ). accepted (blockVerdict b listed major x bytes)) second
+    ∙ ok
 
 pub good-block : (b : Board) (listed : Bool) (major minor : ℕ) (bytes : List ℕ)
     → accepted (blockVerdict b listed major minor bytes) ≡ true → GoodBlock b listed bytes
@@ -155,6 +169,7 @@ good-block b listed major minor bytes ok =
     record {
       nothing-before = first .0;
       size = first .1;
+      own-bytes = own-accepted b listed major minor bytes (first .0) (first .2) ok;
       list-good =
           ap accepted
           (alone-content b (listPart bytes) (list-length bytes (first .1))

@@ -151,7 +151,7 @@ module _ (entries : List (List ℕ)) where
       }
 
   module _ (h : ℕ) (t : Twice (λ (k : ℕ). climb up k h) (length entries)) where
-    -- the steps between h the two
+    -- the steps between the two
     between : ℕ
     between = t .high - t .low
 

@@ -21,7 +21,7 @@ use Rattle.rules.specs.Outcome.{outcomeOf, carriedOut}
 use Rattle.rules.specs.Effect.{recordAfter}
 use Rattle.rules.specs.State.{Source, aList, aBlock, listed, listIn, Own, State, ownOf, joined, freeOwn, fresh, entryOf, recordIn, recordOf, viewOf, putIn, stored}
 use Rattle.rules.specs.Call.{Offer, board, list, block, verdictTo, taken, afterOffer, afterMessage, queryOf, Call, offer, message, next}
-use Rattle.rules.specs.Sequence.{run, permittedFor, freeOrPermitted, Sound}
+use Rattle.rules.specs.Sequence.{run, permittedFor, freeOrPermitted, sourceGood, Sound}
 use Rattle.rules.proofs.Tests.{decide, clash, or-left, cond-true, cond-false}
 use Rattle.rules.proofs.Homes.{board-good}
 use Rattle.rules.proofs.Blocks.{good-block}
@@ -191,7 +191,7 @@ unfolding fresh freeOwn
 fresh-free b i = ap (λ (o : Own). eqb (o .controller) 0) (same-at freeOwn rows i)
 
 pub sound-fresh : (b : Board) → Good b → Sound (fresh b)
-unfolding fresh listed freeOrPermitted recordOf recordIn
+unfolding fresh listed sourceGood freeOrPermitted recordOf recordIn
 sound-fresh b good =
     record {
       board-good = good;
@@ -200,6 +200,7 @@ sound-fresh b good =
       spare-free = λ row spare. same-at freeOwn rows row;
       spare-zero = λ row spare. same-at {A = ℕ} 0 rows row;
       none-fresh = λ e. refl;
+      source-good = refl;
       list-good = λ t. clash {x = false} t refl;
       entries-its = λ t. clash {x = false} t refl;
       holder-permitted = λ p. or-left _ (fresh-free b (rowOf b p));
@@ -214,9 +215,9 @@ module _ (s : State) (sound : Sound s) (none : listed (s .setup .source) ≡ fal
         records = s .records;
       }
 
-  sound-listing : listed source ≡ true → accepted (verdictOf (s .setup .board) false (listIn source)) ≡ true → Sound listing
+  sound-listing : listed source ≡ true → sourceGood (s .setup .board) source ≡ true → accepted (verdictOf (s .setup .board) false (listIn source)) ≡ true → Sound listing
   unfolding listing fresh freeOrPermitted recordOf recordIn
-  sound-listing is good =
+  sound-listing is own good =
       record {
         board-good = sound .board-good;
         rows-there = sound .rows-there;
@@ -224,6 +225,7 @@ module _ (s : State) (sound : Sound s) (none : listed (s .setup .source) ≡ fal
         spare-free = sound .spare-free;
         spare-zero = sound .spare-zero;
         none-fresh = λ e. clash is e;
+        source-good = own;
         list-good = λ t. good;
         entries-its = λ t. refl;
         holder-permitted =
@@ -235,18 +237,18 @@ module _ (s : State) (sound : Sound s) (none : listed (s .setup .source) ≡ fal
 
 -- what an accepted offer sets, in a state that was fresh
 sound-taken : (s : State) → Sound s → (o : Offer) → accepted (verdictTo s o) ≡ true → Sound (taken s o)
-unfolding verdictTo taken fresh listed listIn listing described
+unfolding verdictTo taken fresh listed listIn listing sourceGood described
 sound-taken s sound (board bytes) ok =
     let none = first-accepted s (board bytes) ok in
     subst⁻¹ Sound (ap (λ (t : State). taken t (board bytes)) (sound .none-fresh none))
     (sound-fresh (described bytes) (board-good (descriptionIn bytes)))
 sound-taken s sound (list bytes) ok =
     let none = first-accepted s (list bytes) ok in
-    sound-listing s sound none (aList bytes) refl
-    (subst (λ (x : Bool). accepted (verdictOf (s .setup .board) x bytes) ≡ true) none ok)
+    let good = subst (λ (x : Bool). accepted (verdictOf (s .setup .board) x bytes) ≡ true) none ok in
+    sound-listing s sound none (aList bytes) refl good good
 sound-taken s sound (block major minor bytes) ok =
-    sound-listing s sound (first-accepted s (block major minor bytes) ok) (aBlock bytes) refl
-    (good-block (s .setup .board) (listed (s .setup .source)) major minor bytes ok .list-good)
+    let good = good-block (s .setup .board) (listed (s .setup .source)) major minor bytes ok in
+    sound-listing s sound (first-accepted s (block major minor bytes) ok) (aBlock bytes) refl (good .own-bytes) (good .list-good)
 
 sound-offer : (s : State) → Sound s → (o : Offer) → Sound (afterOffer s o)
 unfolding afterOffer
@@ -265,6 +267,7 @@ sound-message s sound q =
       spare-free = λ row spare. message-spare-own s q row spare ∙ sound .spare-free row spare;
       spare-zero = λ row spare. message-spare-word s q row spare ∙ sound .spare-zero row spare;
       none-fresh = λ e. message-unlisted s q e ∙ sound .none-fresh e;
+      source-good = sound .source-good;
       list-good = sound .list-good;
       entries-its = sound .entries-its;
       holder-permitted = λ p. held-after s q p (sound .holder-permitted p);

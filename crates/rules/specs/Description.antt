@@ -162,7 +162,7 @@ unfoldable pub itemsTable : Description → List Item → List (Line Verdict)
 itemsTable d [] = []
 itemsTable d (x ∷ rest) = itemTable d x ++ itemsTable (withItem d x) rest
 
--- "only before a list, otherwise A1, tested first"
+-- "only before a list, otherwise A1, tested first"; from L1 on, or before a block
 unfoldable pub descriptionTable : Bool → List ℕ → List (Line Verdict)
 descriptionTable listed bytes = (listed gives A1) ∷ itemsTable nothingListed (itemsIn bytes)
 

@@ -32,7 +32,7 @@ unfoldable pub supervisorOf : List (List ℕ) → ℕ → ℕ
 supervisorOf [] h = 0
 supervisorOf (pair ∷ rest) h = cond (names h pair) (supervisorIn pair) (supervisorOf rest h)
 
--- following supervisors from host x comes to host h, before it ends at 0; x and the hosts behind it are n in all
+-- following supervisors from host x comes to host h, before it ends at 0; n hosts are looked at, x the first
 unfoldable pub meets : (ℕ → ℕ) → ℕ → ℕ → ℕ → Bool
 meets up h zero x = false
 meets up h (suc n) x = not (eqb x 0) && (eqb x h || meets up h n (up x))

@@ -6,13 +6,15 @@ use mathlib.Core.List.{List, [], _∷_}
 use lib.ListN.{length, getD}
 use lib.Dec.{eqb}
 use Rattle.rules.specs.declared.Record.{Record}
+use Rattle.rules.specs.Bytes.{byteAt}
 use Rattle.rules.specs.Verdict.{accepted}
-use Rattle.rules.specs.Board.{rows, rowOf, onBoard, homeOf}
+use Rattle.rules.specs.Board.{Board, rows, rowOf, onBoard, homeOf}
 use Rattle.rules.specs.Description.{Good}
 use Rattle.rules.specs.AccessList.{entriesOf, verdictOf}
+use Rattle.rules.specs.Block.{blockVerdict}
 use Rattle.rules.specs.Role.{permitted}
 use Rattle.rules.specs.Outcome.{isFree}
-use Rattle.rules.specs.State.{listed, listIn, Setup, State, freeOwn, fresh, entryOf, recordOf}
+use Rattle.rules.specs.State.{Source, nothing, aList, aBlock, listed, listIn, Setup, State, freeOwn, fresh, entryOf, recordOf}
 use Rattle.rules.specs.Call.{Call, next}
 
 -- the state after a sequence
@@ -28,6 +30,12 @@ permittedFor setup p h = permitted (setup .board) (entryOf setup p) h
 unfoldable pub freeOrPermitted : Setup → ℕ → Record → Bool
 freeOrPermitted setup p r = isFree r || permittedFor setup p (r .controller)
 
+-- what was accepted is accepted by its own bytes: a list, or a block with the ABI bytes that it has
+unfoldable pub sourceGood : Board → Source → Bool
+sourceGood b nothing = true
+sourceGood b (aList bytes) = accepted (verdictOf b false bytes)
+sourceGood b (aBlock bytes) = accepted (blockVerdict b false (byteAt bytes 0) (byteAt bytes 1) bytes)
+
 -- the invariant of every state that calls left, whatever the calls
 pub record Sound (s : State) : Type 0 where
   -- the board is good: rows apart, sharers of one class, homes rows
@@ -42,6 +50,8 @@ pub record Sound (s : State) : Type 0 where
       (row : ℕ) → ((p : ℕ) → onBoard (s .setup .board) p ≡ true → eqb (homeOf (s .setup .board) p) row ≡ false) → getD (s .records .controls) row 0 ≡ 0
   -- with nothing accepted the state is fresh
   pub none-fresh : listed (s .setup .source) ≡ false → s ≡ fresh (s .setup .board)
+  -- what was accepted is good
+  pub source-good : sourceGood (s .setup .board) (s .setup .source) ≡ true
   -- a list that is in force, alone or of a block, is one that the table accepts
   pub list-good :
       listed (s .setup .source) ≡ true → accepted (verdictOf (s .setup .board) false (listIn (s .setup .source))) ≡ true

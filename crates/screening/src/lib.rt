@@ -1,5 +1,5 @@
 // The rows of document 01's outcome table that come before the type, R1 to N2: answer room, message
-// length, whether a list was accepted, and the sender. The rules are specs/Screened.antt.
+// length, whether a list or a block was accepted, and the sender. The rules are specs/Screened.antt.
 ghost use mathlib.Core.Path.{_≡_};
 ghost use mathlib.Core.List.{[]};
 ghost use Rattle.rules.specs.declared.Outcome.the-variants.{Ok};

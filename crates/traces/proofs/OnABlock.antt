@@ -1,8 +1,7 @@
 -- The theorem about the code holds of a block: the block call takes the bench list in a block over memories of zeros, and leaves the memories that the
 -- lone list would. Assumes nothing.
-use Prim.Native.Nat.{ℕ}
 use mathlib.Core.Path.{_≡_, refl, subst⁻¹}
-use mathlib.Core.List.{List, [], _∷_}
+use mathlib.Core.List.{[]}
 use lib.ListN.{replicate}
 use Rattle.rules.specs.declared.BlockReport.{BlockReport}
 use Rattle.rules.specs.declared.Verdict.the-variants.{Accepted}

@@ -1,7 +1,6 @@
 -- `blocks::judge` meets its contract: each return is a line of the table, or what a part of the block comes to, after those above it. Assumes
 -- nothing.
-use mathlib.Core.Path.{refl, sym, ap, _∙_}
-use native.Mathlib.Omega.{arith}
+use mathlib.Core.Path.{refl}
 use Rattle.rules.specs.Hierarchy.{loopReported}
 use Rattle.rules.specs.Block.{hierarchyPart}
 use Rattle.rules.proofs.Verdicts.{no-fault}

@@ -1,5 +1,5 @@
 -- `loading::offer_block` meets its contract: a refused block leaves the memory, of an accepted one the list is loaded. Assumes nothing.
-use mathlib.Core.Path.{sym, _∙_}
+use mathlib.Core.Path.{_∙_}
 use mathlib.Core.Bool.{Bool}
 use native.Mathlib.Omega.{arith}
 use Rattle.rules.specs.Block.{listPart, blockVerdict}

@@ -1,6 +1,5 @@
 -- `verdicts::verdict_letter` meets its contract: by the number's hundreds. Assumes nothing.
 use borrow.Author.Tests.{lt-ltb, le-ltb}
-use borrow.Author.Needs.{needs}
 use Rattle.verdicts.proofs.verdict_letter.Statement.{statement}
 use Rattle.verdicts.proofs.verdict_letter.Tie as tie
 

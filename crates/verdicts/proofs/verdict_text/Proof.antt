@@ -1,8 +1,7 @@
 -- `verdicts::verdict_text` meets its contract: by the verdict's number. Assumes nothing.
 use Prim.Native.Nat.{ℕ, _+_, _%_}
-use mathlib.Core.Path.{_≡_, refl, sym, ap, ap₂, _∙_}
-use mathlib.Core.List.{List, [], _∷_}
-use Rattle.rules.specs.Verdict.{verdictNumber}
+use mathlib.Core.Path.{refl, sym, ap, ap₂, _∙_}
+use mathlib.Core.List.{[], _∷_}
 use Rattle.verdicts.specs.Names.{verdictLetter, verdictLine, loopLine}
 use Rattle.verdicts.proofs.Lines.{ten-line, plain-line, told}
 use borrow.Author.Needs.{needs}
