@@ -47,16 +47,16 @@ pub fn play_field(
     ensures { λ r. ⌜ r .line ≤ 96 ⌝ }
     ensures { λ r. ⌜ PlayedField tag count (now (body .entry)) (now (board .entry)) (now (access .entry)) (now (records .entry)) (now (words .entry)) (now (line .entry)) (now (board .exit)) (now (access .exit)) (now (records .exit)) (now (words .exit)) (now (line .exit)) (r .line) (r .words) ⌝ }
 {
-    if tag == 2 {
-        return Played {
-            line: 0,
-            words: take_words(body, words) as u8,
-        };
-    }
     if (tag == 1) | (tag == 4) | (tag == 6) {
         return Played {
             line: play_offer(board, access, tag, body, line),
             words: count,
+        };
+    }
+    if tag == 2 {
+        return Played {
+            line: 0,
+            words: take_words(body, words) as u8,
         };
     }
     let status = &words[..];

@@ -9,14 +9,15 @@ pub fn tag_good(tag: u8) -> bool
     (tag == 1) | (tag == 2) | (tag == 3) | (tag == 4) | (tag == 6)
 }
 
-// Whether a field of this tag may have this length.
+// Whether a field of this tag may have this length. A message is tested first, since most fields are one.
 pub fn length_good(tag: u8, length: u16) -> bool
     ensures { λ r. ⌜ r ≡ lengthGood tag length ⌝ }
 {
-    match tag {
-        1 | 4 | 6 => length <= 512,
-        2 => (length <= 1020) & (length % 4 == 0),
-        3 => (1 <= length) & (length <= 512),
-        _ => false,
+    if tag == 3 {
+        return (1 <= length) & (length <= 512);
     }
+    if tag == 2 {
+        return (length <= 1020) & (length % 4 == 0);
+    }
+    ((tag == 1) | (tag == 4) | (tag == 6)) & (length <= 512)
 }
