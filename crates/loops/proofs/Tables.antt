@@ -20,10 +20,10 @@ use Rattle.loops.specs.Supervisors.{supervisorsIn, readFrom}
 
 -- ---- filled
 
--- an entry that names no host, or another one
-unfolded-by : (h : ℕ) (pair : List ℕ) (rest : List (List ℕ)) → names h pair ≡ false → supervisorOf (pair ∷ rest) h ≡ supervisorOf rest h
+-- an entry that names no host, or another one, says nothing of a host
+of-another : (h : ℕ) (pair : List ℕ) (rest : List (List ℕ)) → names h pair ≡ false → supervisorOf (pair ∷ rest) h ≡ supervisorOf rest h
 unfolding supervisorOf
-unfolded-by h pair rest other = cond-false (supervisorIn pair) (supervisorOf rest h) other
+of-another h pair rest other = cond-false (supervisorIn pair) (supervisorOf rest h) other
 
 -- no entries fill the table with zeros
 pub none-filled : replicate 256 0 ≡ tableOf (supervisorOf []) 0 256
@@ -35,7 +35,7 @@ module _ (pair : List ℕ) (rest : List (List ℕ)) where
   unused-filled : hostIn pair ≡ 0 → tableOf (supervisorOf rest) 0 256 ≡ tableOf (supervisorOf (pair ∷ rest)) 0 256
   unused-filled none =
       table-below (supervisorOf rest) (supervisorOf (pair ∷ rest)) 256 0
-      (λ k low high. sym (unfolded-by k pair rest (unused k)))
+      (λ k low high. sym (of-another k pair rest (unused k)))
     where
       unused : (k : ℕ) → names k pair ≡ false
       unused k = rw none
@@ -46,7 +46,7 @@ module _ (pair : List ℕ) (rest : List (List ℕ)) where
   used-filled h is some =
       table-set (supervisorOf rest) (supervisorOf (pair ∷ rest)) (supervisorIn pair) 256 0 h
       (ap (supervisorOf (pair ∷ rest)) (zero-add h) ∙ cond-true (supervisorIn pair) (supervisorOf rest h) here)
-      (λ k other. unfolded-by k pair rest (there k other))
+      (λ k other. of-another k pair rest (there k other))
     where
       here : names h pair ≡ true
       here = rw (is, ne-eqb h 0 some) (eq-eqb h h refl)
