@@ -16,7 +16,7 @@ use Rattle.rules.specs.Substructure.{magicIn, sizeIn, partAt, inTurn}
 use Rattle.rules.specs.Hierarchy.{pairs, hostIn, supervisorIn, loopHost, pairTable, hierarchyTable, loopReported}
 use Rattle.rules.proofs.Tests.{cond-true, cond-false, firstOf-append, skipped, none-not, none-falls, none-stops}
 use Rattle.rules.proofs.Verdicts.{not-accepted}
-use Rattle.rules.proofs.Parts.{part-byte, number-at}
+use Rattle.rules.proofs.Parts.{part-byte, number-read}
 use Rattle.rules.proofs.Blocks.{pair-none, pairs-none, refused-number, isB8, B8-number}
 use Rattle.entries.specs.Entries.{partsBefore, writtenBefore, verdictFrom}
 use Rattle.entries.proofs.Faults.{written-named, from-entry}
@@ -26,7 +26,7 @@ use Rattle.entries.proofs.Faults.{written-named, from-entry}
 -- what has been read of it: the host
 module _ (b : Board) (bytes : List ℕ) (e : ℕ) {host : ℕ} (at : host ≡ byteAt bytes (4 + 2 * e)) where
   host-is : hostIn (partAt 2 bytes e) ≡ host
-  host-is = number-at 2 bytes e (omega arith) ∙ sym at
+  host-is = number-read 2 bytes e (omega arith) at
 
   abbrev own : List (Line Verdict)
   own = pairTable b (partsBefore 2 bytes e) (partAt 2 bytes e)

@@ -15,7 +15,7 @@ use Rattle.rules.specs.Substructure.{partAt, partsFrom, names}
 use Rattle.rules.specs.Hierarchy.{pairs, hostIn, supervisorIn, supervisorOf, meets, onLoop, firstHost}
 use Rattle.rules.proofs.Tests.{decide, cond-true, cond-false}
 use Rattle.rules.proofs.Tables.{table-here, table-below, table-set}
-use Rattle.rules.proofs.Parts.{parts-length, part-byte, number-at, parts-next}
+use Rattle.rules.proofs.Parts.{parts-length, part-byte, number-read, parts-next}
 use Rattle.loops.specs.Supervisors.{supervisorsIn, readFrom}
 
 -- ---- filled
@@ -60,7 +60,7 @@ module _ (bytes : List ℕ) (e i : ℕ) {host : ℕ} (h : e < 32) (next : i ≡ 
   left-is = parts-next 2 bytes e h ∙ ap (λ (n : ℕ). partAt 2 bytes e ∷ partsFrom 2 bytes n (32 - n)) (sym next)
 
   host-is : hostIn (partAt 2 bytes e) ≡ host
-  host-is = number-at 2 bytes e (omega arith) ∙ sym at
+  host-is = number-read 2 bytes e (omega arith) at
 
   pub fill-unused : host ≡ 0 → tableOf (supervisorOf (partsFrom 2 bytes i (32 - i))) 0 256 ≡ tableOf (supervisorOf (partsFrom 2 bytes e (32 - e))) 0 256
   fill-unused none =
@@ -146,7 +146,7 @@ module _ (bytes : List ℕ) (e : ℕ) {host : ℕ} (h : e < 32) (at : host ≡ b
   split = ap (firstHost (onLoop (pairs bytes))) (parts-next 2 bytes e h)
 
   named-is : hostIn (partAt 2 bytes e) ≡ host
-  named-is = number-at 2 bytes e (omega arith) ∙ sym at
+  named-is = number-read 2 bytes e (omega arith) at
 
   pub host-found : onLoop (pairs bytes) host ≡ true → first-from e ≡ host
   unfolding firstHost

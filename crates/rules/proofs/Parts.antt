@@ -24,6 +24,10 @@ module _ (width : ℕ) (bytes : List ℕ) where
   pub number-at : (e : ℕ) → 0 < width → numberIn (partAt width bytes e) ≡ byteAt bytes (4 + width * e)
   number-at e some = part-byte e 0 some ∙ ap (λ (i : ℕ). getD bytes i 0) (add-zero (4 + width * e))
 
+  -- where that has been read as x
+  pub number-read : {x : ℕ} (e : ℕ) → 0 < width → x ≡ byteAt bytes (4 + width * e) → numberIn (partAt width bytes e) ≡ x
+  number-read e some at = number-at e some ∙ sym at
+
   -- of those from entry e to the last the first is entry e
   pub parts-next : (e : ℕ) → e < 32 → partsFrom width bytes e (32 - e) ≡ partAt width bytes e ∷ partsFrom width bytes (e + 1) (32 - (e + 1))
   unfolding partsFrom

@@ -7,7 +7,7 @@ use Rattle.rules.specs.declared.Outcome.the-variants.{N1, Ok}
 use Rattle.rules.specs.declared.Verdict.{Verdict}
 use Rattle.rules.specs.declared.Verdict.the-variants.{Accepted, A1, A3, A7, B1, B2, B3, B4, B5, B6, B7, B8, B9, B10}
 use Rattle.rules.specs.Call.{list, block, Call, offer}
-use Rattle.rules.specs.Bench.{listWithMaster, benchList, request, verdict, answer, Case, heldWith}
+use Rattle.rules.specs.Bench.{listWithMaster, benchList, request, header, verdict, answer, Case, heldWith}
 
 -- ---- blocks
 
@@ -41,16 +41,20 @@ badSize bytes = set bytes 2 70
 
 -- ---- the table
 
--- a fresh manager gives a block with the ABI bytes 0 and 1 this verdict
-abbrev pub judging : List ℕ → Verdict → Case
-judging bytes v = record { earlier = []; call = offer (block 0 1 bytes); gives = verdict v }
-
--- these calls before it
+-- after these calls an offer gets this verdict
 abbrev pub behind : List Call → Call → Verdict → Case
 behind earlier call v = record { earlier = earlier; call = call; gives = verdict v }
 
+-- so does a block with the ABI bytes 0 and 1, of a fresh manager
+abbrev pub judging : List ℕ → Verdict → Case
+judging bytes v = behind [] (offer (block 0 1 bytes)) v
+
+-- a good block, and one with a fault in its last part
 abbrev pub taking : Call
 taking = offer (block 0 1 benchBlock)
+
+abbrev pub refusing : Call
+refusing = offer (block 0 1 (blockOf benchList (hierarchyOf tree) (badSize otp)))
 
 unfoldable pub blocked : List Case
 blocked =
@@ -58,8 +62,8 @@ blocked =
     -- each fault alone
     ∷ judging (take 430 benchBlock) B1
     ∷ judging [] B1
-    ∷ record { earlier = []; call = offer (block 1 0 benchBlock); gives = verdict B2 }
-    ∷ record { earlier = []; call = offer (block 0 2 benchBlock); gives = verdict B2 }
+    ∷ behind [] (offer (block 1 0 benchBlock)) B2
+    ∷ behind [] (offer (block 0 2 benchBlock)) B2
     ∷ judging (blockOf (badMagic benchList) (hierarchyOf tree) otp) A3
     ∷ judging (blockOf (listWithMaster 0x0A 0x01) (hierarchyOf tree) otp) A7
     ∷ judging (blockOf benchList (badMagic (hierarchyOf tree)) otp) B3
@@ -86,18 +90,18 @@ blocked =
     ∷ behind (offer (list benchList) ∷ []) taking A1
     ∷ behind (offer (list benchList) ∷ []) (offer (block 0 1 [])) A1
     -- nothing is taken from a block with a fault in its last part; then a list or a block is
-    ∷ behind (offer (block 0 1 (blockOf benchList (hierarchyOf tree) (badSize otp))) ∷ []) (offer (list benchList)) Accepted
-    ∷ behind (offer (block 0 1 (blockOf benchList (hierarchyOf tree) (badSize otp))) ∷ []) taking Accepted
+    ∷ behind (refusing ∷ []) (offer (list benchList)) Accepted
+    ∷ behind (refusing ∷ []) taking Accepted
     ∷ record {
-      earlier = offer (block 0 1 (blockOf benchList (hierarchyOf tree) (badSize otp))) ∷ [];
+      earlier = refusing ∷ [];
       call = request 3;
-      gives = answer N1 0 0 (0x00 ∷ 0xC0 ∷ 3 ∷ 7 ∷ 0 ∷ 0 ∷ 0 ∷ 0 ∷ []) (heldWith 0 0);
+      gives = answer N1 0 0 (header 0x00 0xC0 3 0) (heldWith 0 0);
     }
     -- of a good one the list is in force
     ∷ record {
       earlier = taking ∷ [];
       call = request 3;
-      gives = answer Ok 0 0 (0x00 ∷ 0xC0 ∷ 3 ∷ 7 ∷ 2 ∷ 0 ∷ 0 ∷ 0 ∷ []) (heldWith 3 0);
+      gives = answer Ok 0 0 (header 0x00 0xC0 3 2) (heldWith 3 0);
     }
     ∷ []
 
