@@ -24,7 +24,7 @@ use Rattle.rules.proofs.Rows.{placed, listed-member}
 use Rattle.rules.proofs.Homes.{board-good, share-clusters}
 use Rattle.rules.proofs.Entries.{named-there, named-on}
 use Rattle.rules.proofs.Blocks.{good-block}
-use Rattle.rules.proofs.Sound.{offer-kept, message-unlisted, sound-fresh, sound-next, sound-run}
+use Rattle.rules.proofs.Sound.{offer-kept, message-unlisted, source-list, sound-fresh, sound-next, sound-run}
 use Rattle.noninterference.specs.Statement.{sharerChosen, clustersWhole, clustersListed, Ready, Noninterference, FromEveryStart, listOf, loads, FreshlyLoaded, ForEveryDescription, boardLeft, NoTrace}
 use Rattle.noninterference.proofs.OneCall.{Reached, outsider-refused-here}
 use Rattle.noninterference.proofs.Sequences.{Erased, erase, run-reached, answerPicks, runPicks}
@@ -45,7 +45,7 @@ module _ (s : State) (sound : Sound s) (chosen : List ℕ) (ready : Ready s chos
   entry-there p m =
       let b = s .setup .board in
       subst⁻¹ (λ (es : List Entry). hasEntry (getD es (rowOf b p) noEntry) ≡ true) (sound .entries-its (ready .something))
-      (named-there b (listIn (s .setup .source)) p (sound .list-good (ready .something))
+      (named-there b (listIn (s .setup .source)) p (source-list b (s .setup .source) (ready .something) (sound .source-good))
       (allOf-member (namedIn (parts (listIn (s .setup .source)))) chosen p (ready .named) m))
 
   reached : (calls : List Call) → Reached (s .setup) chosen (ready .something) (ready .whole) (run s calls)

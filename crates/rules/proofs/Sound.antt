@@ -19,7 +19,7 @@ use Rattle.rules.specs.Block.{listPart, blockTable, blockVerdict}
 use Rattle.rules.specs.Message.{Query, subjectOf}
 use Rattle.rules.specs.Outcome.{outcomeOf, carriedOut}
 use Rattle.rules.specs.Effect.{recordAfter}
-use Rattle.rules.specs.State.{Source, aList, aBlock, listed, listIn, Own, State, ownOf, joined, freeOwn, fresh, entryOf, recordIn, recordOf, viewOf, putIn, stored}
+use Rattle.rules.specs.State.{Source, nothing, aList, aBlock, listed, listIn, Own, State, ownOf, joined, freeOwn, fresh, entryOf, recordIn, recordOf, viewOf, putIn, stored}
 use Rattle.rules.specs.Call.{Offer, board, list, block, verdictTo, taken, afterOffer, afterMessage, queryOf, Call, offer, message, next}
 use Rattle.rules.specs.Sequence.{run, permittedFor, freeOrPermitted, sourceGood, Sound}
 use Rattle.rules.proofs.Tests.{decide, clash, or-left, cond-true, cond-false}
@@ -201,10 +201,16 @@ sound-fresh b good =
       spare-zero = λ row spare. same-at {A = ℕ} 0 rows row;
       none-fresh = λ e. refl;
       source-good = refl;
-      list-good = λ t. clash {x = false} t refl;
       entries-its = λ t. clash {x = false} t refl;
       holder-permitted = λ p. or-left _ (fresh-free b (rowOf b p));
     }
+
+-- a list that is in force, alone or of a block, is one that the table accepts
+pub source-list : (b : Board) (source : Source) → listed source ≡ true → sourceGood b source ≡ true → accepted (verdictOf b false (listIn source)) ≡ true
+unfolding listed sourceGood listIn
+source-list b nothing is good = clash {x = false} is refl
+source-list b (aList bytes) is good = good
+source-list b (aBlock bytes) is good = good-block b false _ _ bytes good .list-good
 
 -- a list that is in force from now on, in a state that was fresh: of whatever it came in, the lone list or a block
 module _ (s : State) (sound : Sound s) (none : listed (s .setup .source) ≡ false) (source : Source) where
@@ -215,9 +221,9 @@ module _ (s : State) (sound : Sound s) (none : listed (s .setup .source) ≡ fal
         records = s .records;
       }
 
-  sound-listing : listed source ≡ true → sourceGood (s .setup .board) source ≡ true → accepted (verdictOf (s .setup .board) false (listIn source)) ≡ true → Sound listing
+  sound-listing : listed source ≡ true → sourceGood (s .setup .board) source ≡ true → Sound listing
   unfolding listing fresh freeOrPermitted recordOf recordIn
-  sound-listing is own good =
+  sound-listing is own =
       record {
         board-good = sound .board-good;
         rows-there = sound .rows-there;
@@ -226,7 +232,6 @@ module _ (s : State) (sound : Sound s) (none : listed (s .setup .source) ≡ fal
         spare-zero = sound .spare-zero;
         none-fresh = λ e. clash is e;
         source-good = own;
-        list-good = λ t. good;
         entries-its = λ t. refl;
         holder-permitted =
             λ p.
@@ -245,10 +250,10 @@ sound-taken s sound (board bytes) ok =
 sound-taken s sound (list bytes) ok =
     let none = first-accepted s (list bytes) ok in
     let good = subst (λ (x : Bool). accepted (verdictOf (s .setup .board) x bytes) ≡ true) none ok in
-    sound-listing s sound none (aList bytes) refl good good
+    sound-listing s sound none (aList bytes) refl good
 sound-taken s sound (block major minor bytes) ok =
     let good = good-block (s .setup .board) (listed (s .setup .source)) major minor bytes ok in
-    sound-listing s sound (first-accepted s (block major minor bytes) ok) (aBlock bytes) refl (good .own-bytes) (good .list-good)
+    sound-listing s sound (first-accepted s (block major minor bytes) ok) (aBlock bytes) refl (good .own-bytes)
 
 sound-offer : (s : State) → Sound s → (o : Offer) → Sound (afterOffer s o)
 unfolding afterOffer
@@ -268,7 +273,6 @@ sound-message s sound q =
       spare-zero = λ row spare. message-spare-word s q row spare ∙ sound .spare-zero row spare;
       none-fresh = λ e. message-unlisted s q e ∙ sound .none-fresh e;
       source-good = sound .source-good;
-      list-good = sound .list-good;
       entries-its = sound .entries-its;
       holder-permitted = λ p. held-after s q p (sound .holder-permitted p);
     }

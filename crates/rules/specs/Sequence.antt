@@ -52,10 +52,7 @@ pub record Sound (s : State) : Type 0 where
   pub none-fresh : listed (s .setup .source) ≡ false → s ≡ fresh (s .setup .board)
   -- what was accepted is good
   pub source-good : sourceGood (s .setup .board) (s .setup .source) ≡ true
-  -- a list that is in force, alone or of a block, is one that the table accepts
-  pub list-good :
-      listed (s .setup .source) ≡ true → accepted (verdictOf (s .setup .board) false (listIn (s .setup .source))) ≡ true
-  -- and the entries are its entries
+  -- and the entries are those of its list
   pub entries-its :
       listed (s .setup .source) ≡ true → s .setup .entries ≡ entriesOf (s .setup .board) (listIn (s .setup .source))
   -- each processor is free or held by a permitted host
