@@ -19,7 +19,7 @@ use rules::Outcome;
 // changed, and the vector stored unless bit 28 is named.
 pub fn set_config(
     board: &[u8; 576],
-    records: &mut [u32; 160],
+    records: &mut [u32; 288],
     channel: u8,
     message: &[u8],
 ) -> Outcome

@@ -19,7 +19,7 @@ use rules::Outcome;
 // The control word is changed, for its cluster too.
 pub fn set_control(
     board: &[u8; 576],
-    records: &mut [u32; 160],
+    records: &mut [u32; 288],
     channel: u8,
     message: &[u8],
 ) -> Outcome

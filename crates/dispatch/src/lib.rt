@@ -23,7 +23,7 @@ use wire::u16_at;
 pub fn by_kind(
     board: &[u8; 576],
     access: &[u16],
-    records: &mut [u32; 160],
+    records: &mut [u32; 288],
     channel: u8,
     message: &[u8],
     status: &[u32],

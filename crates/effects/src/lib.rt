@@ -2,23 +2,10 @@
 // are rules/specs/Effect.antt.
 ghost use mathlib.Core.Path.{_≡_};
 ghost use Rattle.rules.specs.Flags.{newWord};
-ghost use Rattle.rules.specs.Effect.{heldBy, withConfig, withControl};
+ghost use Rattle.rules.specs.Effect.{withConfig, withControl};
 use messages::keeps_vector;
 use rules::Record;
 use wire::u32_at;
-
-// The record with `host` as its controller, 0 for none; the other fields are kept.
-pub fn held_by(host: u8, kept: Record) -> Record
-    ensures { λ r. ⌜ r ≡ heldBy host kept ⌝ }
-{
-    Record {
-        controller: host as u32,
-        low: kept.low,
-        high: kept.high,
-        config: kept.config,
-        control: kept.control,
-    }
-}
 
 // A word with the set bits added and the clear bits removed.
 pub fn new_word(old: u32, set: u32, clear: u32) -> u32
@@ -34,6 +21,7 @@ pub fn with_config(message: &[u8], state: Record) -> Record
     let set = u32_at(message, 17);
     let clear = u32_at(message, 21);
     let config = new_word(state.config, set, clear);
+    let tallies = state.tallies;
     if keeps_vector(clear) {
         return Record {
             controller: state.controller,
@@ -41,6 +29,7 @@ pub fn with_config(message: &[u8], state: Record) -> Record
             high: state.high,
             config,
             control: state.control,
+            tallies,
         };
     }
     Record {
@@ -49,6 +38,7 @@ pub fn with_config(message: &[u8], state: Record) -> Record
         high: u32_at(message, 13),
         config,
         control: state.control,
+        tallies,
     }
 }
 
@@ -58,11 +48,13 @@ pub fn with_control(message: &[u8], state: Record) -> Record
 {
     let set = u32_at(message, 9);
     let clear = u32_at(message, 13);
+    let tallies = state.tallies;
     Record {
         controller: state.controller,
         low: state.low,
         high: state.high,
         config: state.config,
         control: new_word(state.control, set, clear),
+        tallies,
     }
 }

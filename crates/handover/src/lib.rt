@@ -6,20 +6,19 @@ ghost use Rattle.rules.specs.declared.Kind.the-variants.{Handover};
 ghost use Rattle.board.specs.Memory.{boardIn};
 ghost use Rattle.operations.specs.Operation.{asked, Carries};
 use board::ROWS;
-use effects::held_by;
 use operations::row_in;
 use records::load;
-use records::store_own;
 use rights::is_controller;
 use rights::is_permitted;
 use rules::Outcome;
+use tallies::on_handover;
 use wire::byte_at;
 
 // Handover: the sender is the controller, and the new host is permitted. The new host controls.
 pub fn handover(
     board: &[u8; 576],
     access: &[u16],
-    records: &mut [u32; 160],
+    records: &mut [u32; 288],
     channel: u8,
     message: &[u8],
 ) -> Outcome
@@ -40,6 +39,6 @@ pub fn handover(
     if !is_permitted(board, access, row, host as u16) {
         return Outcome::N8;
     }
-    store_own(records, row, held_by(host, state));
+    on_handover(records, row, host);
     Outcome::Ok
 }

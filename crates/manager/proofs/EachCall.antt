@@ -81,7 +81,7 @@ unfolding memoryAfter
 memory-length b k o m q =
     ⊎-elim (λ t. ap length (cond-true _ m t) ∙ record-length b m (rowIn b q) _) (λ f. ap length (cond-false _ m f)) (decide (carriedOut o))
 
-module _ (b : Board) (a m : List ℕ) (channel : ℕ) (bytes words held : List ℕ) (la : length a ≡ 129) (lm : length m ≡ 160) where
+module _ (b : Board) (a m : List ℕ) (channel : ℕ) (bytes words held : List ℕ) (la : length a ≡ 129) (lm : length m ≡ 288) where
   abbrev q : Query
   q = query channel bytes words (length held)
 

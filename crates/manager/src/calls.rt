@@ -61,7 +61,7 @@ pub fn offer_block(
 fn decide(
     board: &[u8; 576],
     access: &[u16],
-    records: &mut [u32; 160],
+    records: &mut [u32; 288],
     channel: u8,
     message: &[u8],
     status: &[u32],
@@ -82,7 +82,7 @@ fn decide(
 pub fn message(
     board: &[u8; 576],
     access: &[u16; 129],
-    records: &mut [u32; 160],
+    records: &mut [u32; 288],
     channel: u8,
     message: &[u8],
     status: &[u32],

@@ -11,7 +11,7 @@ use lib.Dec.{eqb}
 use borrow.Author.Tests.{not-true}
 use Rattle.rules.specs.Table.{anyOf, allOf, allFrom}
 use Rattle.rules.specs.Board.{Board, rowOf, onBoard, shareControl}
-use Rattle.rules.specs.Description.{Processor, Description, ourDescription, listsProcessor, shareWord, boardVerdict, descriptionIn, boardOf, described, ours, Good}
+use Rattle.rules.specs.Description.{Processor, Description, listsProcessor, shareWord, boardVerdict, descriptionIn, boardOf, described, ours, Good}
 use Rattle.rules.specs.Verdict.{accepted}
 use Rattle.rules.specs.Substructure.{namedIn}
 use Rattle.rules.specs.AccessList.{Entry, noEntry, parts, hasEntry, verdictOf}
@@ -21,10 +21,10 @@ use Rattle.rules.specs.Call.{Offer, board, list, block, verdictTo, taken, after
 use Rattle.rules.specs.Sequence.{run, freeOrPermitted, Sound}
 use Rattle.rules.proofs.Tests.{decide, clash, and-left, and-right, or-cases, or-left, or-right, cond-true, cond-false, allOf-member, allOf-all, allFrom-all}
 use Rattle.rules.proofs.Rows.{placed, listed-member}
-use Rattle.rules.proofs.Homes.{board-good, share-clusters}
+use Rattle.rules.proofs.Homes.{share-clusters}
 use Rattle.rules.proofs.Entries.{named-there, named-on}
 use Rattle.rules.proofs.Blocks.{good-block}
-use Rattle.rules.proofs.Sound.{offer-kept, message-unlisted, source-list, sound-fresh, sound-next, sound-run}
+use Rattle.rules.proofs.Sound.{offer-kept, message-unlisted, source-list, sound-fresh, sound-next, left-sound}
 use Rattle.noninterference.specs.Statement.{sharerChosen, clustersWhole, clustersListed, Ready, Noninterference, FromEveryStart, listOf, loads, FreshlyLoaded, ForEveryDescription, boardLeft, NoTrace}
 use Rattle.noninterference.proofs.OneCall.{Reached, outsider-refused-here}
 use Rattle.noninterference.proofs.Sequences.{Erased, erase, run-reached, answerPicks, runPicks}
@@ -72,11 +72,6 @@ module _ (s : State) (sound : Sound s) (chosen : List ℕ) (ready : Ready s chos
       }
 
 -- ---- the theorem
-
--- every state that calls left is sound
-pub left-sound : (calls : List Call) → Sound (run (fresh ours) calls)
-unfolding ours
-left-sound calls = sound-run calls (fresh ours) (sound-fresh ours (board-good ourDescription))
 
 pub noninterference : FromEveryStart
 noninterference before chosen ready = from-sound (run (fresh ours) before) (left-sound before) chosen ready

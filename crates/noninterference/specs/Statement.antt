@@ -78,7 +78,7 @@ pub record Noninterference (s : State) (chosen : List ℕ) : Type 0 where
       (these those : List Call)
       → picks (s .setup) chosen these ≡ picks (s .setup) chosen those
       → answers (s .setup) chosen s these ≡ answers (s .setup) chosen s those
-  -- and leave the chosen processors the same records, a cluster's control word among them
+  -- and leave the chosen processors the same records, a cluster's control word and the tallies among them
   pub same-records :
       (these those : List Call)
       → picks (s .setup) chosen these ≡ picks (s .setup) chosen those

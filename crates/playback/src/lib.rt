@@ -19,7 +19,7 @@ ghost use Rattle.playback.specs.Session.{LeftOver, memories, Reached};
 fn play(
     board: &mut [u8; 576],
     access: &mut [u16; 129],
-    records: &mut [u32; 160],
+    records: &mut [u32; 288],
     words: &mut [u32; 255],
     count: u8,
     input: &[u8],
@@ -77,7 +77,7 @@ fn within(end: usize) -> usize
 pub fn play_held(
     board: &mut [u8; 576],
     access: &mut [u16; 129],
-    records: &mut [u32; 160],
+    records: &mut [u32; 288],
     words: &mut [u32; 255],
     count: u8,
     input: &mut [u8; 65536],

@@ -37,7 +37,7 @@ fn play_offer(
 pub fn play_field(
     board: &mut [u8; 576],
     access: &mut [u16; 129],
-    records: &mut [u32; 160],
+    records: &mut [u32; 288],
     words: &mut [u32; 255],
     count: u8,
     tag: u8,

@@ -77,7 +77,7 @@ fn narrow(written: usize) -> u32
 pub extern "C" fn pomrozek_message(
     board: &[u8; 576],
     access: &[u16; 129],
-    records: &mut [u32; 160],
+    records: &mut [u32; 288],
     channel: u8,
     request: &[u8],
     status: &[u32],

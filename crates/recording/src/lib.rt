@@ -62,7 +62,7 @@ fn after_first(body: &[u8]) -> &[u8]
 pub fn message_line(
     board: &[u8; 576],
     access: &[u16; 129],
-    records: &mut [u32; 160],
+    records: &mut [u32; 288],
     body: &[u8],
     status: &[u32],
     line: &mut [u8],

@@ -1,28 +1,27 @@
 -- The laws of the lent memory: a record that was stored is read back, at its row and at no other, and its control word at its home and at
 -- no other; what a call sees of the processor that it names is what stands at its row and home. For any board. Assumes nothing.
-use Prim.Native.Nat.{ℕ, zero, suc, _+_, _*_, _≤_, _<_}
+use Prim.Native.Nat.{ℕ, zero, suc, _+_, _*_, _≤_, _<_, suc-le-suc}
 use mathlib.Core.Path.{_≡_, refl, sym, subst⁻¹, ap, ap₂, _∙_}
-use mathlib.Core.Bool.{true, false}
 use mathlib.Core.List.{List, [], _∷_}
 use mathlib.Core.Logic.{_⊎_, inl, inr, ⊎-elim}
 use native.Mathlib.Nat.{add-zero, add-suc, suc-add, zero-add, not-suc-le-zero, le-of-suc-le-suc}
-use native.Mathlib.Numerals.{towards-suc}
 use native.Mathlib.Omega.{arith}
 use lib.ListN.{length, getD, set, replicate, length-set, List·getD-eq-default}
-use lib.Seq.{sets, set-getD, getD-set-same, getD-set-other, set-out}
-use lib.Dec.{ltb}
+use lib.Seq.{sets, length-sets, set-getD, getD-set-same, getD-set-other, set-out}
+use lib.Dec.{ltb, lit≤}
 use borrow.Author.Tests.{lt-ltb, le-ltb, ltb-true, ltb-false}
 use Rattle.rules.specs.declared.Record.{Record}
 use Rattle.rules.specs.Table.{tableOf}
 use Rattle.rules.specs.Board.{Board, rows, rowOf, homeAt}
 use Rattle.rules.specs.AccessList.{noEntry, noEntries}
+use Rattle.rules.specs.Tally.{noTallies}
 use Rattle.rules.specs.State.{listed, Own, Records, ownOf, joined, freeOwn, fresh, entryOf, recordIn, recordOf, viewOf, putIn}
-use Rattle.rules.proofs.Tests.{decide}
+use Rattle.rules.proofs.Tests.{decide, cond-true, cond-false}
 use Rattle.rules.proofs.Tables.{table-length, table-here, table-past, table-below, table-set}
 use Rattle.rules.proofs.Homes.{home-small}
 use Rattle.access.specs.Memory.{listedIn, entryAt, entriesIn, someList, setupIn}
 use Rattle.access.proofs.Kept.{listed-some}
-use Rattle.records.specs.Memory.{ownAt, controlPlace, controlAt, recordAt, recordsIn, stateIn, viewIn, withOwn, withControlWord, withRecord}
+use Rattle.records.specs.Memory.{ownBy, wordsOf, ownAt, controlPlace, controlAt, recordAt, recordsIn, stateIn, viewIn, withOwn, withControlWord, withRecord}
 
 -- ---- several words stored in a row
 
@@ -43,35 +42,64 @@ sets-at (v ∷ vs) l i (suc j) fits h =
     ap (λ (k : ℕ). getD (sets (set l i v) (suc i) vs) k 0) (add-suc i j ∙ sym (suc-add i j))
     ∙ sets-at vs (set l i v) (suc i) j (simp length-set (omega arith)) (le-of-suc-le-suc h)
 
+-- words put where they stand change nothing
+pub sets-same : (vs l : List ℕ) (i : ℕ) → ((j : ℕ) → j < length vs → getD vs j 0 ≡ getD l (i + j) 0) → sets l i vs ≡ l
+sets-same [] l i stand = refl
+sets-same (v ∷ vs) l i stand =
+    let here : set l i v ≡ l = ap (set l i) (stand 0 (omega arith) ∙ ap (λ (k : ℕ). getD l k 0) (add-zero i)) ∙ set-getD l i 0 in
+    ap (λ (m : List ℕ). sets m (suc i) vs) here
+    ∙ sets-same vs l (suc i)
+    (λ j h. stand (suc j) (suc-le-suc h) ∙ ap (λ (k : ℕ). getD l k 0) (add-suc i j ∙ sym (suc-add i j)))
+
 -- ---- what is a processor's own, stored at its row
 
--- its words, in their order
-abbrev wordsOf : Own → List ℕ
-wordsOf o = o .controller ∷ o .low ∷ o .high ∷ o .config ∷ []
+-- it is the same where its words are
+own-alike : (f g : ℕ → ℕ) → ((j : ℕ) → j < 8 → f j ≡ g j) → ownBy f ≡ ownBy g
+own-alike f g same =
+    λ t.
+    record {
+      controller = same 0 (lit≤ tt) t;
+      low = same 1 (lit≤ tt) t;
+      high = same 2 (lit≤ tt) t;
+      config = same 3 (lit≤ tt) t;
+      tallies = record {
+        grants = same 4 (lit≤ tt) t;
+        overrides = same 5 (lit≤ tt) t;
+        handovers = same 6 (lit≤ tt) t;
+        releases = same 7 (lit≤ tt) t;
+      };
+    }
 
-sets-length : (vs l : List ℕ) (i : ℕ) → length (sets l i vs) ≡ length l
-sets-length [] l i = refl
-sets-length (v ∷ vs) l i = sets-length vs (set l i v) (suc i) ∙ length-set l i v
+pub word-by : (f : ℕ → ℕ) (j : ℕ) → j < 8 → getD (wordsOf (ownBy f)) j 0 ≡ f j
+word-by f zero h = refl
+word-by f (suc zero) h = refl
+word-by f (suc (suc zero)) h = refl
+word-by f (suc (suc (suc zero))) h = refl
+word-by f (suc (suc (suc (suc zero)))) h = refl
+word-by f (suc (suc (suc (suc (suc zero))))) h = refl
+word-by f (suc (suc (suc (suc (suc (suc zero)))))) h = refl
+word-by f (suc (suc (suc (suc (suc (suc (suc zero))))))) h = refl
+word-by f (suc (suc (suc (suc (suc (suc (suc (suc j)))))))) h = absurd (omega arith)
 
-own-is : (m : List ℕ) (row : ℕ) (o : Own) → row < rows → withOwn m row o ≡ sets m (4 * row) (wordsOf o)
+pub own-is : (m : List ℕ) (row : ℕ) (o : Own) → row < rows → withOwn m row o ≡ sets m (8 * row) (wordsOf o)
 unfolding withOwn
-own-is m row o h = rw (lt-ltb row rows h) (simp towards-suc)
+own-is m row o h = cond-true _ m (lt-ltb row rows h)
 
-own-none : (m : List ℕ) (row : ℕ) (o : Own) → rows ≤ row → withOwn m row o ≡ m
+pub own-none : (m : List ℕ) (row : ℕ) (o : Own) → rows ≤ row → withOwn m row o ≡ m
 unfolding withOwn
-own-none m row o past = rw (le-ltb row rows past)
+own-none m row o past = cond-false _ m (le-ltb row rows past)
 
 own-length : (m : List ℕ) (row : ℕ) (o : Own) → length (withOwn m row o) ≡ length m
 own-length m row o =
-    ⊎-elim (λ t. ap length (own-is m row o (ltb-true row rows t)) ∙ sets-length (wordsOf o) m (4 * row))
+    ⊎-elim (λ t. ap length (own-is m row o (ltb-true row rows t)) ∙ length-sets m (8 * row) (wordsOf o))
     (λ f. ap length (own-none m row o (ltb-false row rows f)))
     (decide (ltb row rows))
 
 -- a word before them or behind them stays
-own-beside : (m : List ℕ) (row : ℕ) (o : Own) (k : ℕ) → (k < 4 * row) ⊎ (4 * row + 4 ≤ k) → getD (withOwn m row o) k 0 ≡ getD m k 0
+own-beside : (m : List ℕ) (row : ℕ) (o : Own) (k : ℕ) → (k < 8 * row) ⊎ (8 * row + 8 ≤ k) → getD (withOwn m row o) k 0 ≡ getD m k 0
 own-beside m row o k out =
     ⊎-elim
-    (λ t. ap (λ (l : List ℕ). getD l k 0) (own-is m row o (ltb-true _ _ t)) ∙ sets-other (wordsOf o) m (4 * row) k out)
+    (λ t. ap (λ (l : List ℕ). getD l k 0) (own-is m row o (ltb-true _ _ t)) ∙ sets-other (wordsOf o) m (8 * row) k out)
     (λ f. ap (λ (l : List ℕ). getD l k 0) (own-none m row o (ltb-false _ _ f)))
     (decide (ltb row rows))
 
@@ -84,31 +112,22 @@ own-keeps-control m row o home =
 
 -- put where it stands it changes nothing
 own-kept : (m : List ℕ) (row : ℕ) → withOwn m row (ownAt m row) ≡ m
-unfolding withOwn
 own-kept m row =
     ⊎-elim
-    (λ (t : ltb row rows ≡ true).
-    rw t (rw (set-getD m (4 * row) 0, set-getD m (4 * row + 1) 0, set-getD m (4 * row + 2) 0, set-getD m (4 * row + 3) 0)))
-    (λ (f : ltb row rows ≡ false). rw f)
+    (λ t.
+    own-is m row (ownAt m row) (ltb-true row rows t)
+    ∙ sets-same (wordsOf (ownAt m row)) m (8 * row) (λ j h. word-by (λ (i : ℕ). getD m (8 * row + i) 0) j h))
+    (λ f. own-none m row (ownAt m row) (ltb-false row rows f))
     (decide (ltb row rows))
 
 module _ (m : List ℕ) (row : ℕ) (o : Own) where
-  module _ (size : length m ≡ 160) (h : row < rows) where
-    at-row : (j : ℕ) → j < 4 → getD (withOwn m row o) (4 * row + j) 0 ≡ getD (wordsOf o) j 0
-    at-row j k = ap (λ (l : List ℕ). getD l (4 * row + j) 0) (own-is m row o h) ∙ sets-at (wordsOf o) m (4 * row) j (omega arith) k
-
-    own-same : ownAt (withOwn m row o) row ≡ o
-    own-same =
-        λ t.
-        record {
-          controller = (ap (λ (k : ℕ). getD (withOwn m row o) k 0) (sym (add-zero (4 * row))) ∙ at-row 0 (omega arith)) t;
-          low = at-row 1 (omega arith) t;
-          high = at-row 2 (omega arith) t;
-          config = at-row 3 (omega arith) t;
-        }
+  own-same : length m ≡ 288 → row < rows → ownAt (withOwn m row o) row ≡ o
+  own-same size h =
+      own-alike (λ (j : ℕ). getD (withOwn m row o) (8 * row + j) 0) (λ (j : ℕ). getD (wordsOf o) j 0)
+      (λ j k. ap (λ (l : List ℕ). getD l (8 * row + j) 0) (own-is m row o h) ∙ sets-at (wordsOf o) m (8 * row) j (omega arith) k)
 
   -- the words of another row stand before it or behind it
-  beside : (k j : ℕ) → (k ≡ row → ⊥) → j < 4 → (4 * k + j < 4 * row) ⊎ (4 * row + 4 ≤ 4 * k + j)
+  beside : (k j : ℕ) → (k ≡ row → ⊥) → j < 8 → (8 * k + j < 8 * row) ⊎ (8 * row + 8 ≤ 8 * k + j)
   beside k j apart h =
       ⊎-elim (λ t. inl (let q = ltb-true k row t in omega arith))
       (λ f.
@@ -118,21 +137,10 @@ module _ (m : List ℕ) (row : ℕ) (o : Own) where
       (decide (ltb row k)))
       (decide (ltb k row))
 
-  own-off : (k j : ℕ) → (k ≡ row → ⊥) → j < 4 → getD (withOwn m row o) (4 * k + j) 0 ≡ getD m (4 * k + j) 0
-  own-off k j apart h = own-beside m row o (4 * k + j) (beside k j apart h)
-
   own-other : (k : ℕ) → (k ≡ row → ⊥) → ownAt (withOwn m row o) k ≡ ownAt m k
   own-other k apart =
-      λ t.
-      record {
-        controller =
-            (ap (λ (n : ℕ). getD (withOwn m row o) n 0) (sym (add-zero (4 * k)))
-            ∙ own-off k 0 apart (omega arith)
-            ∙ ap (λ (n : ℕ). getD m n 0) (add-zero (4 * k))) t;
-        low = own-off k 1 apart (omega arith) t;
-        high = own-off k 2 apart (omega arith) t;
-        config = own-off k 3 apart (omega arith) t;
-      }
+      own-alike (λ (j : ℕ). getD (withOwn m row o) (8 * k + j) 0) (λ (j : ℕ). getD m (8 * k + j) 0)
+      (λ j h. own-beside m row o (8 * k + j) (beside k j apart h))
 
 -- ---- a control word stored at its home
 
@@ -140,13 +148,8 @@ module _ (m : List ℕ) (home word k : ℕ) where
   -- a row's own words stand before all control words
   control-keeps-own : k < rows → ownAt (withControlWord m home word) k ≡ ownAt m k
   control-keeps-own h =
-      λ t.
-      record {
-        controller = getD-set-other m (controlPlace home) (4 * k) word 0 (λ e. omega arith) t;
-        low = getD-set-other m (controlPlace home) (4 * k + 1) word 0 (λ e. omega arith) t;
-        high = getD-set-other m (controlPlace home) (4 * k + 2) word 0 (λ e. omega arith) t;
-        config = getD-set-other m (controlPlace home) (4 * k + 3) word 0 (λ e. omega arith) t;
-      }
+      own-alike (λ (j : ℕ). getD (withControlWord m home word) (8 * k + j) 0) (λ (j : ℕ). getD m (8 * k + j) 0)
+      (λ j i. getD-set-other m (controlPlace home) (8 * k + j) word 0 (λ e. omega arith))
 
   control-other : (k ≡ home → ⊥) → controlAt (withControlWord m home word) k ≡ controlAt m k
   control-other apart = getD-set-other m (controlPlace home) (controlPlace k) word 0 (λ e. apart (omega arith))
@@ -190,7 +193,7 @@ store-same b m row =
     (decide (ltb row rows))
 
 -- what is each row's own after a store, also where the row is not there
-own-rows : (m : List ℕ) (row : ℕ) (o : Own) → length m ≡ 160 → tableOf (ownAt (withOwn m row o)) 0 rows ≡ set (tableOf (ownAt m) 0 rows) row o
+own-rows : (m : List ℕ) (row : ℕ) (o : Own) → length m ≡ 288 → tableOf (ownAt (withOwn m row o)) 0 rows ≡ set (tableOf (ownAt m) 0 rows) row o
 own-rows m row o size =
     ⊎-elim
     (λ t.
@@ -206,7 +209,7 @@ own-rows m row o size =
     (decide (ltb row rows))
 
 -- the records read after a store are the records before it with that one put there
-pub records-store : (b : Board) (m : List ℕ) (row : ℕ) (r : Record) → length m ≡ 160 → recordsIn (withRecord b m row r) ≡ putIn b (recordsIn m) row r
+pub records-store : (b : Board) (m : List ℕ) (row : ℕ) (r : Record) → length m ≡ 288 → recordsIn (withRecord b m row r) ≡ putIn b (recordsIn m) row r
 unfolding recordsIn putIn withRecord
 records-store b m row r size =
     let home = homeAt b row in
@@ -223,7 +226,7 @@ records-store b m row r size =
     control-other left home (r .control) k (λ e. apart (e ∙ sym (zero-add home))) ∙ own-keeps-control m row (ownOf r) k)))
 
 -- so a record that was stored is read back
-pub record-same : (b : Board) (m : List ℕ) (row : ℕ) (r : Record) → length m ≡ 160 → row < rows → recordAt b (withRecord b m row r) row ≡ r
+pub record-same : (b : Board) (m : List ℕ) (row : ℕ) (r : Record) → length m ≡ 288 → row < rows → recordAt b (withRecord b m row r) row ≡ r
 unfolding recordIn recordsIn putIn
 record-same b m row r size h =
     ap (λ (rs : Records). recordIn b rs row) (records-store b m row r size)
@@ -268,21 +271,34 @@ view-in b a m p la =
     }
 
 -- memory that is all zeros is a fresh manager, on any board
-pub zeros-fresh : (b : Board) → stateIn b (replicate 129 0) (replicate 160 0) ≡ fresh b
-unfolding stateIn setupIn someList listedIn entriesIn recordsIn tableOf entryAt fresh noEntries noEntry freeOwn
+pub zeros-fresh : (b : Board) → stateIn b (replicate 129 0) (replicate 288 0) ≡ fresh b
+unfolding stateIn setupIn someList listedIn entriesIn recordsIn tableOf entryAt fresh noEntries noEntry freeOwn noTallies
 zeros-fresh b = refl
 
 -- ---- what the code loads
 
 -- the control word at the place that it has found, and the words of a row; past the rows there is nothing of its own
 module _ (b : Board) (m : List ℕ) (row : ℕ) {place : ℕ} (at : place ≡ controlPlace (homeAt b row)) where
+  -- what the row has, with its first word from a place
+  abbrev heldAt : ℕ → Own
+  heldAt k =
+      record {
+        controller = getD m k 0;
+        low = ownAt m row .low;
+        high = ownAt m row .high;
+        config = ownAt m row .config;
+        tallies = ownAt m row .tallies;
+      }
+
   word-at : getD m place 0 ≡ getD (recordsIn m .controls) (homeAt b row) 0
   unfolding recordsIn
   word-at = ap (λ (n : ℕ). getD m n 0) at ∙ sym (table-here (controlAt m) 0 rows (homeAt b row) (home-small b row))
 
-  pub load-here : row < rows → joined (ownAt m row) (getD m place 0) ≡ recordAt b m row
+  pub load-here : row < rows → joined (heldAt (8 * row)) (getD m place 0) ≡ recordAt b m row
   unfolding recordIn recordsIn
-  load-here h = ap₂ joined (sym (table-here (ownAt m) freeOwn rows row h)) word-at
+  load-here h =
+      ap (λ (k : ℕ). joined (heldAt k) (getD m place 0)) (sym (add-zero (8 * row)))
+      ∙ ap₂ joined (sym (table-here (ownAt m) freeOwn rows row h)) word-at
 
   pub load-past : rows ≤ row → joined freeOwn (getD m place 0) ≡ recordAt b m row
   unfolding recordIn recordsIn

@@ -1,9 +1,11 @@
--- The record memory, 160 words of 32 bits: each of 32 rows has four words, the controller (0 for none), vector low and high, and config; then there
--- is a control word for each home. With board and access memory it holds the rules' state, whatever the content. Assumes nothing.
+-- The record memory, 288 words of 32 bits: each of 32 rows has eight words, the controller (0 for none), vector low and high, config, and the four
+-- tallies; then there is a control word for each home. With board and access memory it holds the rules' state, whatever the content. Assumes
+-- nothing.
 use Prim.Native.Nat.{ℕ, _+_, _*_}
 use mathlib.Core.Bool.{cond}
-use mathlib.Core.List.{List}
+use mathlib.Core.List.{List, [], _∷_}
 use lib.ListN.{getD, set}
+use lib.Seq.{sets}
 use lib.Dec.{ltb}
 use Rattle.rules.specs.declared.Record.{Record}
 use Rattle.rules.specs.Table.{tableOf}
@@ -14,21 +16,39 @@ use Rattle.access.specs.Memory.{setupIn, keptSetup, viewWith}
 
 -- the place of a row's first word
 abbrev pub recordPlace : ℕ → ℕ
-recordPlace row = 4 * row
+recordPlace row = 8 * row
+
+-- what is a processor's own, by its words in their order
+abbrev pub ownBy : (ℕ → ℕ) → Own
+ownBy word =
+    record {
+      controller = word 0;
+      low = word 1;
+      high = word 2;
+      config = word 3;
+      tallies = record { grants = word 4; overrides = word 5; handovers = word 6; releases = word 7 };
+    }
+
+-- those words
+abbrev pub wordsOf : Own → List ℕ
+wordsOf o =
+    o .controller
+    ∷ o .low
+    ∷ o .high
+    ∷ o .config
+    ∷ o .tallies .grants
+    ∷ o .tallies .overrides
+    ∷ o .tallies .handovers
+    ∷ o .tallies .releases
+    ∷ []
 
 -- what the processor at a row has of its own
 abbrev pub ownAt : List ℕ → ℕ → Own
-ownAt m row =
-    record {
-      controller = getD m (recordPlace row) 0;
-      low = getD m (recordPlace row + 1) 0;
-      high = getD m (recordPlace row + 2) 0;
-      config = getD m (recordPlace row + 3) 0;
-    }
+ownAt m row = ownBy (λ (j : ℕ). getD m (recordPlace row + j) 0)
 
 -- the place of the control word that is kept at a home, and the word
 abbrev pub controlPlace : ℕ → ℕ
-controlPlace home = 128 + home
+controlPlace home = 256 + home
 
 abbrev pub controlAt : List ℕ → ℕ → ℕ
 controlAt m home = getD m (controlPlace home) 0
@@ -54,16 +74,7 @@ viewIn b access records row = viewWith b access row (recordAt b records row)
 
 -- the record memory with what is a processor's own put at its row; a row that is not there is left alone
 unfoldable pub withOwn : List ℕ → ℕ → Own → List ℕ
-withOwn m row own =
-    cond (ltb row rows)
-    (set
-    (set
-    (set (set m (recordPlace row) (own .controller)) (recordPlace row + 1) (own .low))
-    (recordPlace row + 2)
-    (own .high))
-    (recordPlace row + 3)
-    (own .config))
-    m
+withOwn m row own = cond (ltb row rows) (sets m (recordPlace row) (wordsOf own)) m
 
 -- with a control word put at a home
 abbrev pub withControlWord : List ℕ → ℕ → ℕ → List ℕ

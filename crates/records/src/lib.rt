@@ -7,16 +7,17 @@ ghost use lib.ListN.{getD};
 ghost use Rattle.rules.specs.Board.{homeAt};
 ghost use Rattle.rules.specs.State.{ownOf};
 ghost use Rattle.board.specs.Memory.{boardIn};
-ghost use Rattle.records.specs.Memory.{controlPlace, recordAt, withOwn, withControlWord};
+ghost use Rattle.records.specs.Memory.{ownAt, controlPlace, recordAt, withOwn, withControlWord};
 use board::ROWS;
 use board::home_at;
 use rules::Record;
+use rules::Tallies;
 
 // The place of the control word of the processor at `row`: at its home, which its cluster shares.
 fn control_place(board: &[u8; 576], row: u8) -> usize
-    ensures { λ r. ⌜ (r ≡ controlPlace (homeAt (boardIn (now (board .entry))) row)) × (r < 160) ⌝ }
+    ensures { λ r. ⌜ (r ≡ controlPlace (homeAt (boardIn (now (board .entry))) row)) × (r < 288) ⌝ }
 {
-    128 + home_at(board, row) as usize
+    256 + home_at(board, row) as usize
 }
 
 // The word at place `i`; past the end there are zeros.
@@ -29,19 +30,33 @@ fn word_at(records: &[u32], i: usize) -> u32
     0
 }
 
+// The tallies at `row`.
+fn load_tallies(records: &[u32], row: u8) -> Tallies
+    ensures { λ r. ⌜ r ≡ ownAt (now (records .entry)) row .tallies ⌝ }
+{
+    let at = 8 * (row as usize);
+    Tallies {
+        grants: word_at(records, at + 4),
+        overrides: word_at(records, at + 5),
+        handovers: word_at(records, at + 6),
+        releases: word_at(records, at + 7),
+    }
+}
+
 // The record at `row`. At a row that is not there all is 0 but the control word.
 pub fn load(board: &[u8; 576], records: &[u32], row: u8) -> Record
     ensures { λ r. ⌜ r ≡ recordAt (boardIn (now (board .entry))) (now (records .entry)) row ⌝ }
 {
     let control = word_at(records, control_place(board, row));
     if row < ROWS {
-        let at = 4 * (row as usize);
+        let at = 8 * (row as usize);
         return Record {
             controller: word_at(records, at),
             low: word_at(records, at + 1),
             high: word_at(records, at + 2),
             config: word_at(records, at + 3),
             control,
+            tallies: load_tallies(records, row),
         };
     }
     Record {
@@ -50,24 +65,34 @@ pub fn load(board: &[u8; 576], records: &[u32], row: u8) -> Record
         high: 0,
         config: 0,
         control,
+        tallies: Tallies {
+            grants: 0,
+            overrides: 0,
+            handovers: 0,
+            releases: 0,
+        },
     }
 }
 
 // Puts all of a record but its control word at `row`. A row that is not there is left alone.
-pub fn store_own(records: &mut [u32; 160], row: u8, state: Record)
+pub fn store_own(records: &mut [u32; 288], row: u8, state: Record)
     ensures { λ _. ⌜ now (records .exit) ≡ withOwn (now (records .entry)) row (ownOf state) ⌝ }
 {
     if row < ROWS {
-        let at = 4 * (row as usize);
+        let at = 8 * (row as usize);
         records[at] = state.controller;
         records[at + 1] = state.low;
         records[at + 2] = state.high;
         records[at + 3] = state.config;
+        records[at + 4] = state.tallies.grants;
+        records[at + 5] = state.tallies.overrides;
+        records[at + 6] = state.tallies.handovers;
+        records[at + 7] = state.tallies.releases;
     }
 }
 
 // Puts the control word of the processor at `row`, and so of its cluster, at the home.
-pub fn store_control(board: &[u8; 576], records: &mut [u32; 160], row: u8, control: u32)
+pub fn store_control(board: &[u8; 576], records: &mut [u32; 288], row: u8, control: u32)
     ensures { λ _. ⌜ now (records .exit) ≡ withControlWord (now (records .entry)) (homeAt (boardIn (now (board .entry))) row) control ⌝ }
 {
     records[control_place(board, row)] = control;

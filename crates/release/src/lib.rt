@@ -6,15 +6,14 @@ ghost use Rattle.rules.specs.declared.Kind.the-variants.{Release};
 ghost use Rattle.board.specs.Memory.{boardIn};
 ghost use Rattle.operations.specs.Operation.{asked, CarriesByController};
 use board::ROWS;
-use effects::held_by;
 use operations::row_in;
 use records::load;
-use records::store_own;
 use rights::is_controller;
 use rules::Outcome;
+use tallies::on_release;
 
 // Release: the sender is the controller. The processor is free, and the other fields are kept.
-pub fn release(board: &[u8; 576], records: &mut [u32; 160], channel: u8, message: &[u8]) -> Outcome
+pub fn release(board: &[u8; 576], records: &mut [u32; 288], channel: u8, message: &[u8]) -> Outcome
     ensures { λ r. ⌜ CarriesByController (boardIn (now (board .entry))) Release (now (records .entry)) (asked channel (now (message .entry)) []) (now (records .exit)) r ⌝ }
 {
     if message.len() < 9 {
@@ -28,6 +27,6 @@ pub fn release(board: &[u8; 576], records: &mut [u32; 160], channel: u8, message
     if !is_controller(state, channel) {
         return Outcome::N7;
     }
-    store_own(records, row, held_by(0, state));
+    on_release(records, row);
     Outcome::Ok
 }

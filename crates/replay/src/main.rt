@@ -24,7 +24,7 @@ fn read_behind(input: &mut [u8], held: usize) -> usize
 fn turn(
     board: &mut [u8; 576],
     access: &mut [u16; 129],
-    records: &mut [u32; 160],
+    records: &mut [u32; 288],
     words: &mut [u32; 255],
     stand: Stand,
     input: &mut [u8; 65536],
@@ -54,7 +54,7 @@ fn turn(
 fn main() {
     let mut board = [0u8; 576];
     let mut access = [0u16; 129];
-    let mut records = [0u32; 160];
+    let mut records = [0u32; 288];
     let mut words = [0u32; 255];
     let mut input = io::large_buffer();
     let mut output = io::large_buffer();

@@ -6,22 +6,21 @@ ghost use Rattle.board.specs.Memory.{boardIn};
 ghost use Rattle.operations.specs.Operation.{asked, CarriesRequest};
 use access::role_of;
 use board::ROWS;
-use effects::held_by;
 use operations::Decision;
 use operations::row_in;
 use operations::with_role;
 use records::load;
-use records::store_own;
 use rights::may_request;
 use rules::Outcome;
 use rules::Role;
+use tallies::on_request;
 
 // Request: the processor is free and the sender permitted, or the sender is its recovery master. The
 // sender controls. From N7 on its role is told.
 pub fn request(
     board: &[u8; 576],
     access: &[u16],
-    records: &mut [u32; 160],
+    records: &mut [u32; 288],
     channel: u8,
     message: &[u8],
 ) -> Decision
@@ -39,6 +38,6 @@ pub fn request(
     if !may_request(role, state) {
         return with_role(Outcome::N7, role);
     }
-    store_own(records, row, held_by(channel, state));
+    on_request(records, row, channel);
     with_role(Outcome::Ok, role)
 }

@@ -1,5 +1,5 @@
--- The starred cases hold, those of the shared control word, of board descriptions, of roles, of waits and of blocks: one computed check of the
--- seven tables. Assumes nothing.
+-- The starred cases hold, those of the shared control word, of board descriptions, of roles, of waits, of blocks and of tallies: one computed check
+-- of the nine tables. Assumes nothing.
 use mathlib.Core.Path.{_≡_, refl}
 use mathlib.Core.List.{List, map}
 use Rattle.rules.specs.Table.{firstOf, anyOf, placeOf, tableOf}
@@ -11,20 +11,23 @@ use Rattle.rules.specs.AccessList.{noEntry, entryTable, contentTable, li
 use Rattle.rules.specs.Hierarchy.{pairs, supervisorOf, meets, onLoop, firstHost, loopHost, pairTable, hierarchyTable}
 use Rattle.rules.specs.Block.{otpTable, blockTable, blockVerdict}
 use Rattle.rules.specs.Role.{namesHost, roleTable, roleOf, permitted}
-use Rattle.rules.specs.Message.{answerAsked, kindOf, waitIn, subjectOf}
+use Rattle.rules.specs.Message.{answerAsked, kindOf, waitIn, subjectOf, namesProcessor, isAbout}
 use Rattle.rules.specs.Wait.{runAfter, endsRun, firstEnd, endingCheck, ranOut, checksOf, microsOf}
 use Rattle.rules.specs.Outcome.{senderWrong, wordsMissing, waitFailed, admission, byWords, outcomeTable, outcomeOf, carriedOut, silent}
+use Rattle.rules.specs.Tally.{noTallies, countsFor, oneMore, tallyAfter, talliesAfter}
 use Rattle.rules.specs.Effect.{recordAfter}
 use Rattle.rules.specs.Answer.{ackBytes, bytesFor, answerBytes, answerOf, waited, tellsRole, reportOf}
 use Rattle.rules.specs.State.{listed, freeOwn, fresh, entryOf, recordIn, recordOf, viewOf, putIn, stored}
 use Rattle.rules.specs.Call.{verdictTo, taken, afterOffer, afterMessage, answerTo, next}
 use Rattle.rules.specs.Sequence.{run}
+use Rattle.rules.specs.Warranty.{counts, countOf}
 use Rattle.rules.specs.Bench.{Case, givenIn, answerGiven, starred}
 use Rattle.rules.specs.Cluster.{clustered}
 use Rattle.rules.specs.Boards.{hostsFrom, processorsFrom, boarded}
 use Rattle.rules.specs.Roles.{RoleCase, shownIn, roled}
 use Rattle.rules.specs.Waits.{counted}
 use Rattle.rules.specs.Blocks.{LoopCase, hierarchyOf, blocked, looped}
+use Rattle.rules.specs.Counts.{TallyCase, heldFrom, talliedIn, tallied, CountCase, workedOut, countedIn, totalled}
 
 -- every case of a table gives what it says
 abbrev pub Hold : List Case → Type 0
@@ -38,9 +41,16 @@ Shows cases = map (λ (c : RoleCase). shownIn (run (fresh ours) (c .earlier)) (c
 abbrev pub Finds : List LoopCase → Type 0
 Finds cases = map (λ (c : LoopCase). loopHost (pairs (hierarchyOf (c .entries)))) cases ≡ map (λ (c : LoopCase). c .host) cases
 
-all-hold : Hold starred × Hold clustered × Hold boarded × Shows roled × Hold counted × Hold blocked × Finds looped
-unfolding blocked looped supervisorOf meets onLoop firstHost loopHost pairTable hierarchyTable otpTable blockTable blockVerdict counted roled shownIn boarded hostsFrom processorsFrom nothingListed bodySize fieldGood noItem itemIn fieldSize itemsFrom itemsIn listsHost repeats otherClass isFull itemTable withItem itemsTable descriptionTable boardVerdict withItems descriptionIn described firstOf anyOf placeOf tableOf ours ourDescription listsProcessor markIn rowIn classIn sharedCluster sharedIn homeIn boardOf boardHost activeHost rowOf onBoard classAt classOf homeAt maskOf noEntry partsFrom namedIn entryTable inTurn contentTable listTable verdictOf accepted entryIn withPart withParts noEntries entriesOf hasEntry namesHost roleTable roleOf permitted answerAsked kindOf waitIn subjectOf runAfter endsRun firstEnd endingCheck ranOut checksOf microsOf senderWrong wordsMissing waitFailed admission byWords outcomeTable outcomeOf carriedOut silent recordAfter ackBytes bytesFor answerBytes answerOf waited tellsRole reportOf listed freeOwn fresh entryOf recordIn recordOf viewOf putIn stored verdictTo taken afterOffer afterMessage answerTo next run givenIn answerGiven starred clustered
-all-hold = (refl, refl, refl, refl, refl, refl, refl)
+-- and every case of one message and of sequences, with the tallies that they leave
+abbrev pub Counts : List TallyCase → Type 0
+Counts cases = map (λ (c : TallyCase). talliedIn (heldFrom (c .holder) (c .before)) (c .call)) cases ≡ map (λ (c : TallyCase). (c .outcome, c .after)) cases
+
+abbrev pub Totals : List CountCase → Type 0
+Totals cases = map (λ (c : CountCase). countedIn (fresh ours) c) cases ≡ map (λ (c : CountCase). (c .left, c .left)) cases
+
+all-hold : Hold starred × Hold clustered × Hold boarded × Shows roled × Hold counted × Hold blocked × Finds looped × Counts tallied × Totals totalled
+unfolding tallied heldFrom talliedIn totalled workedOut countedIn noTallies countsFor oneMore tallyAfter talliesAfter counts countOf isAbout namesProcessor blocked looped supervisorOf meets onLoop firstHost loopHost pairTable hierarchyTable otpTable blockTable blockVerdict counted roled shownIn boarded hostsFrom processorsFrom nothingListed bodySize fieldGood noItem itemIn fieldSize itemsFrom itemsIn listsHost repeats otherClass isFull itemTable withItem itemsTable descriptionTable boardVerdict withItems descriptionIn described firstOf anyOf placeOf tableOf ours ourDescription listsProcessor markIn rowIn classIn sharedCluster sharedIn homeIn boardOf boardHost activeHost rowOf onBoard classAt classOf homeAt maskOf noEntry partsFrom namedIn entryTable inTurn contentTable listTable verdictOf accepted entryIn withPart withParts noEntries entriesOf hasEntry namesHost roleTable roleOf permitted answerAsked kindOf waitIn subjectOf runAfter endsRun firstEnd endingCheck ranOut checksOf microsOf senderWrong wordsMissing waitFailed admission byWords outcomeTable outcomeOf carriedOut silent recordAfter ackBytes bytesFor answerBytes answerOf waited tellsRole reportOf listed freeOwn fresh entryOf recordIn recordOf viewOf putIn stored verdictTo taken afterOffer afterMessage answerTo next run givenIn answerGiven starred clustered
+all-hold = (refl, refl, refl, refl, refl, refl, refl, refl, refl)
 
 pub starred-hold : Hold starred
 starred-hold = all-hold .0
@@ -67,3 +77,10 @@ blocked-hold = all-hold .5
 
 pub looped-found : Finds looped
 looped-found = all-hold .6
+
+-- document 02, L10
+pub tallied-count : Counts tallied
+tallied-count = all-hold .7
+
+pub totalled-count : Totals totalled
+totalled-count = all-hold .8

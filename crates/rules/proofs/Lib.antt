@@ -7,12 +7,14 @@ pub mod Rows
 pub mod Homes
 pub mod Permission
 pub mod Rights
+pub mod Tally
 pub mod Parts
 pub mod Entries
 pub mod Climbs
 pub mod Hierarchy
 pub mod Blocks
 pub mod Sound
+pub mod Warranty
 pub mod Descriptions
 pub mod Waits
 pub mod Bench

@@ -1,31 +1,33 @@
 -- Every state that calls left is sound: the fresh one is, and every call keeps it, whatever the call. On the way: what one call leaves
 -- in the state, an offer once something was accepted, a message that is refused, and a store for one processor. Assumes nothing.
-use Prim.Native.Nat.{ℕ, zero, suc}
+use Prim.Native.Nat.{ℕ, zero, suc, _≤_}
 use mathlib.Core.Path.{_≡_, refl, sym, subst, subst⁻¹, _∙_, ap, ap₂}
 use mathlib.Core.Bool.{Bool, true, false}
 use mathlib.Core.List.{List, [], _∷_}
 use mathlib.Core.Logic.{⊎-elim}
 use lib.ListN.{length, getD, set, replicate, length-set, length-replicate}
 use lib.Seq.{set-getD, getD-set-same, getD-set-other, set-out}
-use lib.Dec.{eqb, ltb}
+use lib.Dec.{eqb, ltb, lit≤}
 use borrow.Author.Tests.{eqb-true, eqb-false, ltb-true, ltb-false}
 use Rattle.rules.specs.declared.Record.{Record}
 use Rattle.rules.specs.Table.{firstOf}
 use Rattle.rules.specs.Verdict.{accepted}
 use Rattle.rules.specs.Board.{Board, rows, rowOf, onBoard, homeAt, homeOf}
-use Rattle.rules.specs.Description.{descriptionTable, boardVerdict, descriptionIn, described, Good}
+use Rattle.rules.specs.Description.{descriptionTable, boardVerdict, ourDescription, descriptionIn, described, ours, Good}
 use Rattle.rules.specs.AccessList.{noEntry, listTable, verdictOf, entriesOf}
 use Rattle.rules.specs.Block.{listPart, blockTable, blockVerdict}
 use Rattle.rules.specs.Message.{Query, subjectOf}
 use Rattle.rules.specs.Outcome.{outcomeOf, carriedOut}
+use Rattle.rules.specs.Tally.{Tally, grants, overrides, handovers, releases, noTallies, tallyIn, tallyOf, cap, heldCount, differenceGood}
 use Rattle.rules.specs.Effect.{recordAfter}
-use Rattle.rules.specs.State.{Source, nothing, aList, aBlock, listed, listIn, Own, State, ownOf, joined, freeOwn, fresh, entryOf, recordIn, recordOf, viewOf, putIn, stored}
+use Rattle.rules.specs.State.{Source, nothing, aList, aBlock, listed, listIn, Setup, Own, State, ownOf, joined, freeOwn, fresh, entryOf, recordIn, recordOf, viewOf, putIn, stored}
 use Rattle.rules.specs.Call.{Offer, board, list, block, verdictTo, taken, afterOffer, afterMessage, queryOf, Call, offer, message, next}
 use Rattle.rules.specs.Sequence.{run, permittedFor, freeOrPermitted, sourceGood, Sound}
 use Rattle.rules.proofs.Tests.{decide, clash, or-left, cond-true, cond-false}
 use Rattle.rules.proofs.Homes.{board-good}
 use Rattle.rules.proofs.Blocks.{good-block}
 use Rattle.rules.proofs.Rights.{soundly, allowed, after-sound, refusal-keeps}
+use Rattle.rules.proofs.Tally.{after-capped, after-differs}
 
 -- ---- an offer
 
@@ -108,7 +110,7 @@ message-unlisted s q e =
 
 -- a record stored for x keeps what is p's own where their rows differ, and p's control word where their homes do
 module _ (s : State) (x : ℕ) (r : Record) (p : ℕ) where
-  own-other : eqb (rowOf (s .setup .board) p) (rowOf (s .setup .board) x) ≡ false
+  pub own-other : eqb (rowOf (s .setup .board) p) (rowOf (s .setup .board) x) ≡ false
       → getD (stored s x r .records .own) (rowOf (s .setup .board) p) freeOwn ≡ getD (s .records .own) (rowOf (s .setup .board) p) freeOwn
   unfolding stored putIn
   own-other apart =
@@ -149,11 +151,15 @@ module _ (s : State) (q : Query) (row : ℕ) where
       (λ refused. ap (λ (t : State). getD (t .records .controls) row 0) (message-refused s q refused))
       (decide (carriedOut (outcomeOf (viewOf s x) q)))
 
--- every processor that was held by a permitted host or by none still is
-held-after : (s : State) (q : Query) (p : ℕ) → freeOrPermitted (s .setup) p (recordOf s p) ≡ true
-    → freeOrPermitted (s .setup) p (recordOf (afterMessage s q) p) ≡ true
-unfolding freeOrPermitted permittedFor entryOf recordOf recordIn afterMessage stored putIn viewOf
-held-after s q p held =
+-- what holds at every row of what is a processor's own, and is kept at the row of the processor named, is kept at every row
+own-after : (Holds : ℕ → Own → Type 0) (s : State) (q : Query)
+    → (Holds (rowOf (s .setup .board) (subjectOf q)) (ownOf (recordOf s (subjectOf q)))
+    → Holds (rowOf (s .setup .board) (subjectOf q)) (ownOf (recordAfter (viewOf s (subjectOf q)) q)))
+    → (p : ℕ)
+    → Holds (rowOf (s .setup .board) p) (ownOf (recordOf s p))
+    → Holds (rowOf (s .setup .board) p) (ownOf (recordOf (afterMessage s q) p))
+unfolding recordOf recordIn afterMessage stored putIn
+own-after Holds s q keeps p holds =
     let b = s .setup .board in
     let x = subjectOf q in
     let os = s .records .own in
@@ -161,22 +167,33 @@ held-after s q p held =
     ⊎-elim
     (λ same.
     let row : rowOf b p ≡ rowOf b x = eqb-true (rowOf b p) (rowOf b x) same in
-    let there : soundly b (getD (s .setup .entries) (rowOf b x) noEntry) (joined (getD os (rowOf b x) freeOwn) 0) ≡ true =
-    subst (λ (i : ℕ). soundly b (getD (s .setup .entries) i noEntry) (joined (getD os i freeOwn) 0) ≡ true) row held
-    in
     ⊎-elim
     (λ inside.
-    subst⁻¹ (λ (i : ℕ). soundly b (getD (s .setup .entries) i noEntry) (joined (getD (set os (rowOf b x) (ownOf after)) i freeOwn) 0) ≡ true) row
-    (subst⁻¹ (λ (o : Own). soundly b (getD (s .setup .entries) (rowOf b x) noEntry) (joined o 0) ≡ true)
-    (getD-set-same os (rowOf b x) (ownOf after) freeOwn (ltb-true _ _ inside))
-    (after-sound (viewOf s x) q there)))
+    subst⁻¹ (λ (i : ℕ). Holds i (getD (set os (rowOf b x) (ownOf after)) i freeOwn)) row
+    (subst⁻¹ (Holds (rowOf b x)) (getD-set-same os (rowOf b x) (ownOf after) freeOwn (ltb-true _ _ inside))
+    (keeps (subst (λ (i : ℕ). Holds i (getD os i freeOwn)) row holds))))
     (λ outside.
-    subst⁻¹ (λ (l : List Own). soundly b (getD (s .setup .entries) (rowOf b p) noEntry) (joined (getD l (rowOf b p) freeOwn) 0) ≡ true)
-    (set-out os (rowOf b x) (ownOf after) (ltb-false _ _ outside)) held)
+    subst⁻¹ (λ (l : List Own). Holds (rowOf b p) (getD l (rowOf b p) freeOwn)) (set-out os (rowOf b x) (ownOf after) (ltb-false _ _ outside)) holds)
     (decide (ltb (rowOf b x) (length os))))
-    (λ apart.
-    subst⁻¹ (λ (o : Own). soundly b (getD (s .setup .entries) (rowOf b p) noEntry) (joined o 0) ≡ true) (own-other s x after p apart) held)
+    (λ apart. subst⁻¹ (Holds (rowOf b p)) (own-other s x after p apart) holds)
     (decide (eqb (rowOf b p) (rowOf b x)))
+
+-- every processor that was held by a permitted host or by none still is
+held-after : (s : State) (q : Query) (p : ℕ) → freeOrPermitted (s .setup) p (recordOf s p) ≡ true
+    → freeOrPermitted (s .setup) p (recordOf (afterMessage s q) p) ≡ true
+unfolding freeOrPermitted permittedFor entryOf viewOf
+held-after s q =
+    own-after (λ (row : ℕ) (o : Own). soundly (s .setup .board) (getD (s .setup .entries) row noEntry) (joined o 0) ≡ true) s q
+    (after-sound (viewOf s (subjectOf q)) q)
+
+-- and its tallies are as they must be (document 02, L10)
+pub capped-after : (s : State) (q : Query) (t : Tally) (p : ℕ) → tallyOf t (recordOf s p) ≤ cap → tallyOf t (recordOf (afterMessage s q) p) ≤ cap
+unfolding viewOf
+capped-after s q t = own-after (λ (row : ℕ) (o : Own). tallyIn t (o .tallies) ≤ cap) s q (after-capped t (viewOf s (subjectOf q)) q)
+
+pub differ-after : (s : State) (q : Query) (p : ℕ) → differenceGood (recordOf s p) ≡ true → differenceGood (recordOf (afterMessage s q) p) ≡ true
+unfolding viewOf differenceGood heldCount
+differ-after s q = own-after (λ (row : ℕ) (o : Own). differenceGood (joined o 0) ≡ true) s q (after-differs (viewOf s (subjectOf q)) q)
 
 -- ---- the invariant
 
@@ -186,12 +203,32 @@ same-at a zero i = refl
 same-at a (suc n) zero = refl
 same-at a (suc n) (suc i) = same-at a n i
 
-fresh-free : (b : Board) (i : ℕ) → eqb (getD (fresh b .records .own) i freeOwn .controller) 0 ≡ true
-unfolding fresh freeOwn
-fresh-free b i = ap (λ (o : Own). eqb (o .controller) 0) (same-at freeOwn rows i)
+pub fresh-own : (b : Board) (p : ℕ) → ownOf (recordOf (fresh b) p) ≡ freeOwn
+unfolding fresh recordOf recordIn
+fresh-own b p = same-at freeOwn rows (rowOf b p)
+
+-- what is free and zero is as the invariant has it
+module _ (r : Record) (is : ownOf r ≡ freeOwn) where
+  free-holder : (setup : Setup) (p : ℕ) → freeOrPermitted setup p r ≡ true
+  unfolding freeOrPermitted freeOwn
+  free-holder setup p = or-left _ (ap (λ (o : Own). eqb (o .controller) 0) is)
+
+  pub free-tally : (t : Tally) → tallyOf t r ≡ 0
+  unfolding freeOwn noTallies
+  free-tally grants = ap (λ (o : Own). o .tallies .grants) is
+  free-tally overrides = ap (λ (o : Own). o .tallies .overrides) is
+  free-tally handovers = ap (λ (o : Own). o .tallies .handovers) is
+  free-tally releases = ap (λ (o : Own). o .tallies .releases) is
+
+  free-capped : (t : Tally) → tallyOf t r ≤ cap
+  free-capped t = subst⁻¹ (λ (n : ℕ). n ≤ cap) (free-tally t) (lit≤ tt)
+
+  free-differs : differenceGood r ≡ true
+  unfolding differenceGood heldCount freeOwn noTallies
+  free-differs = ap (λ (o : Own). differenceGood (joined o 0)) is
 
 pub sound-fresh : (b : Board) → Good b → Sound (fresh b)
-unfolding fresh listed sourceGood freeOrPermitted recordOf recordIn
+unfolding fresh listed sourceGood
 sound-fresh b good =
     record {
       board-good = good;
@@ -202,8 +239,26 @@ sound-fresh b good =
       none-fresh = λ e. refl;
       source-good = refl;
       entries-its = λ t. clash {x = false} t refl;
-      holder-permitted = λ p. or-left _ (fresh-free b (rowOf b p));
+      holder-permitted = λ p. free-holder (recordOf (fresh b) p) (fresh-own b p) _ p;
+      tallies-capped = λ t p. free-capped (recordOf (fresh b) p) (fresh-own b p) t;
+      tallies-differ = λ p. free-differs (recordOf (fresh b) p) (fresh-own b p);
     }
+
+-- with nothing accepted every processor is free and zero, and still is when an offer has just been accepted
+module _ (s : State) (sound : Sound s) (none : listed (s .setup .source) ≡ false) where
+  row-free : (row : ℕ) → getD (s .records .own) row freeOwn ≡ freeOwn
+  unfolding fresh
+  row-free row = ap (λ (t : State). getD (t .records .own) row freeOwn) (sound .none-fresh none) ∙ same-at freeOwn rows row
+
+  pub none-own : (p : ℕ) → ownOf (recordOf s p) ≡ freeOwn
+  unfolding recordOf recordIn
+  none-own p = row-free (rowOf (s .setup .board) p)
+
+  pub taken-own : (o : Offer) (p : ℕ) → ownOf (recordOf (taken s o) p) ≡ freeOwn
+  unfolding taken recordOf recordIn
+  taken-own (board bytes) p = row-free (rowOf (described bytes) p)
+  taken-own (list bytes) p = row-free (rowOf (s .setup .board) p)
+  taken-own (block major minor bytes) p = row-free (rowOf (s .setup .board) p)
 
 -- a list that is in force, alone or of a block, is one that the table accepts
 pub source-list : (b : Board) (source : Source) → listed source ≡ true → sourceGood b source ≡ true → accepted (verdictOf b false (listIn source)) ≡ true
@@ -221,8 +276,12 @@ module _ (s : State) (sound : Sound s) (none : listed (s .setup .source) ≡ fal
         records = s .records;
       }
 
+  listing-own : (p : ℕ) → ownOf (recordOf listing p) ≡ freeOwn
+  unfolding listing recordOf recordIn
+  listing-own p = none-own s sound none p
+
   sound-listing : listed source ≡ true → sourceGood (s .setup .board) source ≡ true → Sound listing
-  unfolding listing fresh freeOrPermitted recordOf recordIn
+  unfolding listing
   sound-listing is own =
       record {
         board-good = sound .board-good;
@@ -233,11 +292,9 @@ module _ (s : State) (sound : Sound s) (none : listed (s .setup .source) ≡ fal
         none-fresh = λ e. clash is e;
         source-good = own;
         entries-its = λ t. refl;
-        holder-permitted =
-            λ p.
-            or-left _
-            (ap (λ (t : State). eqb (getD (t .records .own) (rowOf (s .setup .board) p) freeOwn .controller) 0) (sound .none-fresh none)
-            ∙ fresh-free (s .setup .board) (rowOf (s .setup .board) p));
+        holder-permitted = λ p. free-holder (recordOf listing p) (listing-own p) _ p;
+        tallies-capped = λ t p. free-capped (recordOf listing p) (listing-own p) t;
+        tallies-differ = λ p. free-differs (recordOf listing p) (listing-own p);
       }
 
 -- what an accepted offer sets, in a state that was fresh
@@ -275,6 +332,8 @@ sound-message s sound q =
       source-good = sound .source-good;
       entries-its = sound .entries-its;
       holder-permitted = λ p. held-after s q p (sound .holder-permitted p);
+      tallies-capped = λ t p. capped-after s q t p (sound .tallies-capped t p);
+      tallies-differ = λ p. differ-after s q p (sound .tallies-differ p);
     }
 
 pub sound-next : (s : State) → Sound s → (c : Call) → Sound (next s c)
@@ -286,3 +345,8 @@ pub sound-run : (cs : List Call) (s : State) → Sound s → Sound (run s cs)
 unfolding run
 sound-run [] s sound = sound
 sound-run (c ∷ cs) s sound = sound-run cs (next s c) (sound-next s sound c)
+
+-- every state that calls left is sound
+pub left-sound : (calls : List Call) → Sound (run (fresh ours) calls)
+unfolding ours
+left-sound calls = sound-run calls (fresh ours) (sound-fresh ours (board-good ourDescription))

@@ -10,6 +10,7 @@ use Rattle.rules.specs.declared.Verdict.{Verdict}
 use Rattle.rules.specs.declared.Verdict.the-variants.{Accepted, A1, A7}
 use Rattle.rules.specs.Bytes.{u32Bytes}
 use Rattle.rules.specs.Message.{subjectOf}
+use Rattle.rules.specs.Tally.{noTallies}
 use Rattle.rules.specs.State.{State, recordOf}
 use Rattle.rules.specs.Call.{list, verdictTo, Answer, answerTo, queryOf, Call, offer, message, next}
 
@@ -56,13 +57,23 @@ waitStatus host words =
 
 -- ---- what a call gives
 
--- an offer its verdict; a message outcome, checks, microseconds, written bytes, and the record afterwards of the processor named
+-- an offer its verdict; a message outcome, checks, microseconds, written bytes, and the record afterwards of the processor named, but for its
+-- tallies, of which Counts.antt has cases
 pub data Given : Type 0 where
   verdict : Verdict → Given
   answer : Outcome → ℕ → ℕ → List ℕ → Record → Given
 
 unfoldable pub answerGiven : Answer → Record → Given
-answerGiven a r = answer (a .report .outcome) (a .report .checks) (a .report .micros) (a .bytes) r
+answerGiven a r =
+    answer (a .report .outcome) (a .report .checks) (a .report .micros) (a .bytes)
+    (record {
+      controller = r .controller;
+      low = r .low;
+      high = r .high;
+      config = r .config;
+      control = r .control;
+      tallies = noTallies;
+    })
 
 unfoldable pub givenIn : State → Call → Given
 givenIn s (offer o) = verdict (verdictTo s o)
@@ -78,7 +89,8 @@ pub record Case : Type 0 where
 
 -- the record of a processor with this controller and vector, and no flag
 abbrev pub heldWith : ℕ → ℕ → Record
-heldWith controller low = record { controller = controller; low = low; high = 0; config = 0; control = 0 }
+heldWith controller low =
+    record { controller = controller; low = low; high = 0; config = 0; control = 0; tallies = noTallies }
 
 abbrev pub loaded : List Call
 loaded = offer (list benchList) ∷ []

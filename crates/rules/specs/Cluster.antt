@@ -6,6 +6,7 @@ use lib.ListN.{replicate}
 use Rattle.rules.specs.declared.Outcome.the-variants.{N7, Ok}
 use Rattle.rules.specs.declared.Record.{Record}
 use Rattle.rules.specs.Bytes.{u32Bytes}
+use Rattle.rules.specs.Tally.{noTallies}
 use Rattle.rules.specs.Call.{list, Call, offer}
 use Rattle.rules.specs.Bench.{sent, header, answer, Case}
 
@@ -55,7 +56,7 @@ statusOf host p r =
 -- a record with this controller, vector, config word and control word
 abbrev pub recordWith : ℕ → ℕ → ℕ → ℕ → Record
 recordWith controller low config control =
-    record { controller = controller; low = low; high = 0; config = config; control = control }
+    record { controller = controller; low = low; high = 0; config = config; control = control; tallies = noTallies }
 
 -- host 10 controls 32 alone, host 12 controls 33 alone, and host 10 has set bits 0 and 1 through 32
 abbrev pub setThrough32 : List Call

@@ -5,14 +5,16 @@ use mathlib.Core.List.{List}
 use Rattle.rules.specs.declared.Kind.{Kind}
 use Rattle.rules.specs.declared.Kind.the-variants.{Request, Release, Handover, SetConfig, SetControl, AuthBoot, GetStatus, WaitStatus, Other}
 use Rattle.rules.specs.declared.Record.{Record}
+use Rattle.rules.specs.declared.Tallies.{Tallies}
 use Rattle.rules.specs.Message.{Query, kindIn, newHostOf, vectorLowOf, vectorHighOf, configSetOf, configClearOf, controlSetOf, controlClearOf}
 use Rattle.rules.specs.Flags.{keepsVector, newWord}
 use Rattle.rules.specs.Outcome.{View, outcomeOf, carriedOut}
+use Rattle.rules.specs.Tally.{talliesAfter}
 
--- host h controls, 0 for none; the other fields are kept
-abbrev pub heldBy : ℕ → Record → Record
-heldBy h r =
-    record { controller = h; low = r .low; high = r .high; config = r .config; control = r .control }
+-- host h controls, 0 for none, with these tallies; the other fields are kept
+abbrev pub heldBy : ℕ → Tallies → Record → Record
+heldBy h tallies r =
+    record { controller = h; low = r .low; high = r .high; config = r .config; control = r .control; tallies = tallies }
 
 -- set config: the word, and the vector unless bit 28 is named
 abbrev pub withConfig : List ℕ → Record → Record
@@ -23,6 +25,7 @@ withConfig m r =
       high = cond (keepsVector (configClearOf m)) (r .high) (vectorHighOf m);
       config = newWord (r .config) (configSetOf m) (configClearOf m);
       control = r .control;
+      tallies = r .tallies;
     }
 
 abbrev pub withControl : List ℕ → Record → Record
@@ -33,13 +36,15 @@ withControl m r =
       high = r .high;
       config = r .config;
       control = newWord (r .control) (controlSetOf m) (controlClearOf m);
+      tallies = r .tallies;
     }
 
--- request: the sender controls; release: free, other fields kept; handover: the new host controls. Get status and wait change nothing
+-- request: the sender controls; release: free, other fields kept; handover: the new host controls; each is counted (document 02, L10). Get status and
+-- wait change nothing
 abbrev pub effectOf : Kind → Query → Record → Record
-effectOf Request q r = heldBy (q .channel) r
-effectOf Release q r = heldBy 0 r
-effectOf Handover q r = heldBy (newHostOf (q .message)) r
+effectOf Request q r = heldBy (q .channel) (talliesAfter Request (q .channel) r) r
+effectOf Release q r = heldBy 0 (talliesAfter Release 0 r) r
+effectOf Handover q r = heldBy (newHostOf (q .message)) (talliesAfter Handover (newHostOf (q .message)) r) r
 effectOf SetConfig q r = withConfig (q .message) r
 effectOf SetControl q r = withControl (q .message) r
 effectOf AuthBoot q r = r

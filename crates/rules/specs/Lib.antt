@@ -14,14 +14,17 @@ pub mod Message
 pub mod Flags
 pub mod Wait
 pub mod Outcome
+pub mod Tally
 pub mod Effect
 pub mod Answer
 pub mod State
 pub mod Call
 pub mod Sequence
+pub mod Warranty
 pub mod Bench
 pub mod Cluster
 pub mod Boards
 pub mod Roles
 pub mod Waits
 pub mod Blocks
+pub mod Counts

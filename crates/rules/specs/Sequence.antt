@@ -1,5 +1,5 @@
 -- Sequences of calls ("What demand 3 speaks of"): the state that they leave, and what holds of every such state. Assumes nothing.
-use Prim.Native.Nat.{ℕ}
+use Prim.Native.Nat.{ℕ, _≤_}
 use mathlib.Core.Path.{_≡_}
 use mathlib.Core.Bool.{Bool, true, false, _||_}
 use mathlib.Core.List.{List, [], _∷_}
@@ -14,6 +14,7 @@ use Rattle.rules.specs.AccessList.{entriesOf, verdictOf}
 use Rattle.rules.specs.Block.{blockVerdict}
 use Rattle.rules.specs.Role.{permitted}
 use Rattle.rules.specs.Outcome.{isFree}
+use Rattle.rules.specs.Tally.{Tally, tallyOf, cap, differenceGood}
 use Rattle.rules.specs.State.{Source, nothing, aList, aBlock, listed, listIn, Setup, State, freeOwn, fresh, entryOf, recordOf}
 use Rattle.rules.specs.Call.{Call, next}
 
@@ -57,3 +58,6 @@ pub record Sound (s : State) : Type 0 where
       listed (s .setup .source) ≡ true → s .setup .entries ≡ entriesOf (s .setup .board) (listIn (s .setup .source))
   -- each processor is free or held by a permitted host
   pub holder-permitted : (p : ℕ) → freeOrPermitted (s .setup) p (recordOf s p) ≡ true
+  -- document 02, L10: no tally is above the cap, and below it grants and releases tell whether the processor is held
+  pub tallies-capped : (t : Tally) (p : ℕ) → tallyOf t (recordOf s p) ≤ cap
+  pub tallies-differ : (p : ℕ) → differenceGood (recordOf s p) ≡ true

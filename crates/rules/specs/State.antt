@@ -1,14 +1,17 @@
 -- The state: the board in force (document 02, L8), what was accepted and what stands since then ("Access list"; document 02, L1), and each processor's record
--- ("Our board"), of which the control word may be a cluster's (document 02, L4). A message call sees a `View` of it. Assumes nothing.
+-- ("Our board"), of which the control word may be a cluster's (document 02, L4), with its tallies (L10). A message call sees a `View` of it. Assumes
+-- nothing.
 use Prim.Native.Nat.{ℕ}
 use mathlib.Core.Bool.{Bool, true, false}
 use mathlib.Core.List.{List, []}
 use lib.ListN.{getD, set, replicate}
 use Rattle.rules.specs.declared.Record.{Record}
+use Rattle.rules.specs.declared.Tallies.{Tallies}
 use Rattle.rules.specs.Board.{Board, rows, rowOf, homeAt}
 use Rattle.rules.specs.AccessList.{Entry, noEntry, noEntries}
 use Rattle.rules.specs.Block.{listPart}
 use Rattle.rules.specs.Outcome.{View}
+use Rattle.rules.specs.Tally.{noTallies}
 
 -- what was accepted, with its bytes as they came
 pub data Source : Type 0 where
@@ -40,6 +43,7 @@ pub record Own : Type 0 where
   pub low : ℕ
   pub high : ℕ
   pub config : ℕ
+  pub tallies : Tallies
 
 -- the records as they are kept: by row what is each processor's own, and by home the control words, each once
 pub record Records : Type 0 where
@@ -53,15 +57,23 @@ pub record State : Type 0 where
 
 -- a record taken apart, and put together
 abbrev pub ownOf : Record → Own
-ownOf r = record { controller = r .controller; low = r .low; high = r .high; config = r .config }
+ownOf r =
+    record { controller = r .controller; low = r .low; high = r .high; config = r .config; tallies = r .tallies }
 
 abbrev pub joined : Own → ℕ → Record
 joined own control =
-    record { controller = own .controller; low = own .low; high = own .high; config = own .config; control = control }
+    record {
+      controller = own .controller;
+      low = own .low;
+      high = own .high;
+      config = own .config;
+      control = control;
+      tallies = own .tallies;
+    }
 
 -- free and zero
 unfoldable pub freeOwn : Own
-freeOwn = record { controller = 0; low = 0; high = 0; config = 0 }
+freeOwn = record { controller = 0; low = 0; high = 0; config = 0; tallies = noTallies }
 
 -- all start free and zero, on this board, and nothing is accepted
 unfoldable pub fresh : Board → State

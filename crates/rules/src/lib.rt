@@ -77,6 +77,15 @@ pub enum Kind {
     Other,
 }
 
+// What is counted of a processor: requests granted while it was free, overrides that took it from another
+// host, handovers to another host, and releases.
+pub struct Tallies {
+    pub grants: u32,
+    pub overrides: u32,
+    pub handovers: u32,
+    pub releases: u32,
+}
+
 // A processor's record. A controller of 0 is none, since host 0 never controls. The 64-bit boot
 // vector is kept in halves, as the messages carry it.
 pub struct Record {
@@ -85,6 +94,7 @@ pub struct Record {
     pub high: u32,
     pub config: u32,
     pub control: u32,
+    pub tallies: Tallies,
 }
 
 // The operands of a wait: how many checks at most, how many matching words in a row end it, the

@@ -1,7 +1,8 @@
--- Demand 3 of the code: what the memories keep, what a trace leaves and gives, the theorem, and one use of it.
+-- Demand 3 of the code: what the memories keep, what a trace leaves and gives, the theorem, and one use of it. The tallies of the code.
 pub mod Kept
 pub mod Steps
 pub mod Theorem
+pub mod Warranty
 pub mod OnTheBench
 pub mod OnThePack
 pub mod OnABlock

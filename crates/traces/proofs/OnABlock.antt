@@ -28,7 +28,7 @@ abbrev taken : BlockReport
 taken = record { verdict = Accepted; host = 0 }
 
 abbrev blocked-memories : Memories
-blocked-memories = record { board = boardBytes ours; access = accessAfterBlock ours (replicate 129 0) 0 1 benchBlock; records = replicate 160 0 }
+blocked-memories = record { board = boardBytes ours; access = accessAfterBlock ours (replicate 129 0) 0 1 benchBlock; records = replicate 288 0 }
 
 block-accepted : BlockCall ours (replicate 129 0) 0 1 benchBlock (accessAfterBlock ours (replicate 129 0) 0 1 benchBlock) taken
 unfolding tableOf ours ourDescription listsProcessor markIn rowIn classIn sharedCluster sharedIn homeIn boardOf firstOf anyOf boardHost activeHost placeOf rowOf onBoard partsFrom namedIn entryTable inTurn contentTable supervisorOf meets onLoop firstHost loopHost pairTable hierarchyTable loopReported otpTable blockTable blockVerdict listedIn

@@ -1,7 +1,7 @@
 -- The theorem is not empty: the bench list is accepted over memories of zeros, a request of host 3 follows, and both steps meet their
--- contracts; the theorem applies to it, and to a list that names a cluster. Assumes nothing.
+-- contracts; the theorem applies to it, and to a list that names a cluster, and so does that of the tallies. Assumes nothing.
 use Prim.Native.Nat.{ℕ}
-use mathlib.Core.Path.{refl, subst⁻¹}
+use mathlib.Core.Path.{_≡_, refl, subst⁻¹}
 use mathlib.Core.List.{List, [], _∷_, _++_}
 use lib.ListN.{replicate}
 use Rattle.rules.specs.declared.Outcome.the-variants.{Ok}
@@ -14,12 +14,14 @@ use Rattle.rules.specs.Verdict.{accepted}
 use Rattle.rules.specs.Substructure.{partsFrom, namedIn, inTurn}
 use Rattle.rules.specs.AccessList.{noEntry, entryTable, contentTable, listTable, verdictOf, entryIn, withPart, withParts, noEntries, entriesOf, hasEntry}
 use Rattle.rules.specs.Role.{namesHost, roleTable, roleOf, permitted}
-use Rattle.rules.specs.Message.{answerAsked, kindOf, waitIn, subjectOf}
+use Rattle.rules.specs.Message.{answerAsked, kindOf, waitIn, subjectOf, namesProcessor, isAbout}
 use Rattle.rules.specs.Outcome.{senderWrong, wordsMissing, waitFailed, admission, byWords, outcomeTable, outcomeOf, carriedOut, silent}
+use Rattle.rules.specs.Tally.{grants, noTallies, tallyOf, countsFor, oneMore, tallyAfter, talliesAfter}
 use Rattle.rules.specs.Effect.{recordAfter}
 use Rattle.rules.specs.Answer.{ackBytes, bytesFor, answerBytes, answerOf, waited, tellsRole, reportOf}
-use Rattle.rules.specs.State.{listed, freeOwn, entryOf, recordIn, recordOf, viewOf, putIn, stored}
-use Rattle.rules.specs.Call.{afterMessage, answerTo, Lent, next}
+use Rattle.rules.specs.State.{listed, freeOwn, fresh, entryOf, recordIn, recordOf, viewOf, putIn, stored}
+use Rattle.rules.specs.Call.{verdictTo, taken, afterOffer, afterMessage, answerTo, Lent, next}
+use Rattle.rules.specs.Warranty.{counts, countOf}
 use Rattle.rules.specs.Bench.{benchList, header}
 use Rattle.rules.specs.Cluster.{clusterList}
 use Rattle.noninterference.specs.Statement.{clustersWhole}
@@ -30,16 +32,18 @@ use Rattle.board.specs.Memory.{boardBytes}
 use Rattle.boards.proofs.Started.{start-read}
 use Rattle.manager.specs.Calls.{lending, ListCall, MessageCall}
 use Rattle.manager.proofs.EachCall.{list-state}
-use Rattle.traces.specs.Trace.{Memories, started, Step, listStep, messageStep, beforeOf, afterOf, Meets, Trace, done, step, Loads, Loaded}
+use Rattle.traces.specs.Trace.{Memories, started, Step, listStep, messageStep, beforeOf, afterOf, callOf, Meets, Trace, done, step, callsOf, Loads, Loaded}
 use Rattle.traces.specs.Statement.{CodeNoninterference}
+use Rattle.traces.specs.Warranty.{leftIn}
 use Rattle.traces.proofs.Theorem.{of-the-code}
+use Rattle.traces.proofs.Warranty.{warranty-of-the-code}
 
 abbrev bothR5 : List ℕ
 bothR5 = 1 ∷ 2 ∷ []
 
 -- the memories that the bench list leaves
 abbrev pub listed-memories : Memories
-listed-memories = record { board = boardBytes ours; access = accessAfter ours (replicate 129 0) benchList; records = replicate 160 0 }
+listed-memories = record { board = boardBytes ours; access = accessAfter ours (replicate 129 0) benchList; records = replicate 288 0 }
 
 bench-accepted : ListCall ours (replicate 129 0) benchList (accessAfter ours (replicate 129 0) benchList) Accepted
 unfolding tableOf ours ourDescription listsProcessor markIn rowIn classIn sharedCluster sharedIn homeIn boardOf firstOf anyOf boardHost activeHost placeOf rowOf onBoard partsFrom namedIn entryTable inTurn contentTable listTable verdictOf listedIn
@@ -59,9 +63,12 @@ bench-loaded =
       in-force = start-read;
     }
 
--- host 3 requests processor 1, and controls it
+-- host 3 requests processor 1, and controls it, which is a grant
+abbrev heldRecords : List ℕ
+heldRecords = 3 ∷ 0 ∷ 0 ∷ 0 ∷ 1 ∷ replicate 283 0
+
 abbrev held-memories : Memories
-held-memories = record { board = boardBytes ours; access = accessAfter ours (replicate 129 0) benchList; records = 3 ∷ replicate 159 0 }
+held-memories = record { board = boardBytes ours; access = accessAfter ours (replicate 129 0) benchList; records = heldRecords }
 
 abbrev asked : Lent
 asked = lending 3 (0x00 ∷ 0xC0 ∷ 3 ∷ 0x07 ∷ 0x02 ∷ 0x00 ∷ 0x00 ∷ 0x00 ∷ 0x01 ∷ []) [] (replicate 29 0xFF)
@@ -71,9 +78,9 @@ request-step =
     messageStep asked listed-memories held-memories (record { outcome = Ok; checks = 0; micros = 0; written = 8; role = Master })
     (header 0x00 0xC0 3 2 ++ replicate 21 0xFF)
 
-bench-answered : MessageCall ours (accessAfter ours (replicate 129 0) benchList) (replicate 160 0) asked (3 ∷ replicate 159 0) (header 0x00 0xC0 3 2 ++ replicate 21 0xFF)
+bench-answered : MessageCall ours (accessAfter ours (replicate 129 0) benchList) (replicate 288 0) asked heldRecords (header 0x00 0xC0 3 2 ++ replicate 21 0xFF)
     (record { outcome = Ok; checks = 0; micros = 0; written = 8; role = Master })
-unfolding tableOf ours ourDescription listsProcessor markIn rowIn classIn sharedCluster sharedIn homeIn boardOf firstOf anyOf boardHost activeHost placeOf rowOf onBoard classAt classOf homeAt noEntry partsFrom namedIn entryTable inTurn contentTable listTable verdictOf accepted entryIn withPart withParts noEntries entriesOf hasEntry namesHost roleTable roleOf permitted answerAsked kindOf waitIn subjectOf senderWrong wordsMissing waitFailed admission byWords outcomeTable outcomeOf carriedOut silent recordAfter ackBytes bytesFor answerBytes answerOf waited tellsRole reportOf listed freeOwn entryOf recordIn recordOf viewOf putIn stored afterMessage answerTo next listedIn entryAt entriesIn someList setupIn wordsOf accessAfter recordsIn stateIn
+unfolding tableOf ours ourDescription listsProcessor markIn rowIn classIn sharedCluster sharedIn homeIn boardOf firstOf anyOf boardHost activeHost placeOf rowOf onBoard classAt classOf homeAt noEntry partsFrom namedIn entryTable inTurn contentTable listTable verdictOf accepted entryIn withPart withParts noEntries entriesOf hasEntry namesHost roleTable roleOf permitted answerAsked kindOf waitIn subjectOf senderWrong wordsMissing waitFailed admission byWords outcomeTable outcomeOf carriedOut silent countsFor oneMore tallyAfter talliesAfter recordAfter ackBytes bytesFor answerBytes answerOf waited tellsRole reportOf listed freeOwn noTallies entryOf recordIn recordOf viewOf putIn stored afterMessage answerTo next listedIn entryAt entriesIn someList setupIn wordsOf accessAfter recordsIn stateIn
 bench-answered = record { report = refl; records = refl; buffer = refl }
 
 pub bench-trace : Trace listed-memories (request-step ∷ [])
@@ -82,7 +89,7 @@ bench-trace =
     step {x = request-step} refl (
       subst⁻¹
           (λ (b : Board).
-          MessageCall b (accessAfter ours (replicate 129 0) benchList) (replicate 160 0) asked (3 ∷ replicate 159 0) (header 0x00 0xC0 3 2 ++ replicate 21 0xFF)
+          MessageCall b (accessAfter ours (replicate 129 0) benchList) (replicate 288 0) asked heldRecords (header 0x00 0xC0 3 2 ++ replicate 21 0xFF)
           (record { outcome = Ok; checks = 0; micros = 0; written = 8; role = Master }))
           start-read bench-answered,
       refl,
@@ -97,3 +104,8 @@ on-the-bench = of-the-code ours benchList bothR5 refl refl
 pub on-the-cluster : CodeNoninterference ours clusterList (32 ∷ 33 ∷ [])
 unfolding allFrom onBoard homeAt homeOf tableOf ours ourDescription listsProcessor markIn rowIn classIn sharedCluster sharedIn homeIn boardOf anyOf allOf placeOf rowOf shareControl partsFrom namedIn clustersWhole
 on-the-cluster = of-the-code ours clusterList (32 ∷ 33 ∷ []) refl refl
+
+-- document 02, L10: by the theorem of the tallies the code has counted one grant
+pub grant-counted : tallyOf grants (leftIn ours listed-memories (request-step ∷ []) 1) ≡ 1
+unfolding tableOf ours ourDescription listsProcessor markIn rowIn classIn sharedCluster sharedIn homeIn boardOf firstOf anyOf boardHost activeHost placeOf rowOf onBoard classAt classOf homeAt noEntry partsFrom namedIn entryTable inTurn contentTable listTable verdictOf accepted entryIn withPart withParts noEntries entriesOf hasEntry namesHost roleTable roleOf permitted kindOf namesProcessor isAbout subjectOf senderWrong wordsMissing waitFailed admission byWords outcomeTable outcomeOf carriedOut countsFor recordAfter listed freeOwn noTallies fresh entryOf recordIn recordOf viewOf verdictTo taken afterOffer callOf callsOf counts countOf
+grant-counted = warranty-of-the-code ours benchList .counted bench-loaded bench-trace grants 1

@@ -29,11 +29,11 @@ abbrev zeros : List ℕ
 zeros = replicate 129 0
 
 abbrev described-memories : Memories
-described-memories = record { board = boardBytes (described packBytes); access = zeros; records = replicate 160 0 }
+described-memories = record { board = boardBytes (described packBytes); access = zeros; records = replicate 288 0 }
 
 abbrev listed-memories : Memories
 listed-memories =
-    record { board = boardBytes (described packBytes); access = accessAfter (described packBytes) zeros packList; records = replicate 160 0 }
+    record { board = boardBytes (described packBytes); access = accessAfter (described packBytes) zeros packList; records = replicate 288 0 }
 
 -- the board call over the start's memory
 pack-taken : BoardCall (boardBytes ours) zeros packBytes (boardBytes (described packBytes)) Accepted

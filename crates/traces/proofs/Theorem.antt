@@ -20,11 +20,11 @@ use Rattle.rules.specs.Block.{listPart}
 use Rattle.rules.specs.Outcome.{carriedOut}
 use Rattle.rules.specs.State.{listed, State, fresh, recordOf, stored}
 use Rattle.rules.specs.Call.{Offer, list, block, verdictTo, taken, afterOffer, afterMessage, Answer, answerTo, Lent, queryOf, Call, offer, message, next}
-use Rattle.rules.specs.Sequence.{run, freeOrPermitted}
+use Rattle.rules.specs.Sequence.{run, freeOrPermitted, Sound}
 use Rattle.rules.proofs.Tests.{decide, cond-true}
-use Rattle.rules.proofs.Sound.{offer-kept as kept-by-offer, first-accepted, block-as-list}
+use Rattle.rules.proofs.Sound.{offer-kept as kept-by-offer, first-accepted, block-as-list, sound-fresh, sound-next, left-sound}
 use Rattle.noninterference.specs.Statement.{clustersWhole, loads, listOf, answers, Noninterference, boardLeft}
-use Rattle.noninterference.proofs.Theorem.{left-sound, loaded-on, listed-clusters, named-all, no-trace}
+use Rattle.noninterference.proofs.Theorem.{loaded-on, listed-clusters, named-all, no-trace}
 use Rattle.board.specs.Memory.{boardIn}
 use Rattle.boards.proofs.Started.{start-read}
 use Rattle.access.specs.Memory.{someList, setupIn, keptSetup}
@@ -39,7 +39,7 @@ use Rattle.traces.proofs.Steps.{Holds, held-by, answer-told, step-holds
 -- what a fresh manager's memories hold
 started-hold : Holds started (fresh ours)
 unfolding kept keptSetup fresh someList listed
-started-hold = ap (λ (b : Board). stateIn b (replicate 129 0) (replicate 160 0)) start-read ∙ zeros-fresh ours
+started-hold = ap (λ (b : Board). stateIn b (replicate 129 0) (replicate 288 0)) start-read ∙ zeros-fresh ours
 
 -- memories that hold a state have its board in force
 board-held : (m : Memories) (s : State) → Holds m s → boardIn (m .board) ≡ s .setup .board
@@ -144,51 +144,68 @@ board-stays [] s is = refl
 board-stays (offer o ∷ cs) s is = ap (λ (t : State). run t cs .setup .board) (kept-by-offer s o is) ∙ board-stays cs s is
 board-stays (message lent ∷ cs) s is = board-stays cs (afterMessage s (queryOf lent)) is
 
+-- ---- the record words after any steps
+
+-- from memories that hold a state with a list in force, a processor's record words are its record by the rules
+pub words-left : (m : Memories) (s : State) → Holds m s → listed (s .setup .source) ≡ true → {steps : List Step} → Trace m steps → (p : ℕ)
+    → recordAt (s .setup .board) (endOf m steps .records) (rowOf (s .setup .board) p) ≡ recordOf (run s (callsOf steps)) p
+words-left m s holds is {steps} trace p =
+    ap (λ (c : Board). recordAt c (endOf m steps .records) (rowOf c p)) (sym (board-stays (callsOf steps) s is))
+    ∙ words-at (endOf m steps) (run s (callsOf steps)) p (trace-holds trace s holds)
+
+-- the state of the rules that the list leaves
+abbrev pub start : Board → List ℕ → State
+start b bytes = afterOffer (fresh b) (list bytes)
+
+module _ (b : Board) (bytes : List ℕ) {m : Memories} (loaded : Loaded b bytes m) where
+  pub start-good : Good b
+  start-good = begun loaded .on-board
+
+  pub start-sound : Sound (start b bytes)
+  unfolding next
+  start-sound = sound-next (fresh b) (sound-fresh b start-good) (offer (list bytes))
+
+  start-listed : listed (start b bytes .setup .source) ≡ true
+  unfolding afterOffer taken listed
+  start-listed =
+      ap (λ (t : State). listed (t .setup .source))
+      (cond-true (taken (fresh b) (list bytes)) (fresh b) (ap accepted (fresh-verdict b bytes) ∙ begun loaded .good))
+
+  start-board : start b bytes .setup .board ≡ b
+  start-board = list-board (fresh b) bytes ∙ fresh-board b
+
+  pub words-are : {steps : List Step} → Trace m steps → (p : ℕ)
+      → recordAt b (endOf m steps .records) (rowOf b p) ≡ recordOf (run (start b bytes) (callsOf steps)) p
+  words-are {steps} trace p =
+      ap (λ (c : Board). recordAt c (endOf m steps .records) (rowOf c p)) (sym start-board)
+      ∙ words-left m (start b bytes) (begun loaded .holds) start-listed trace p
+
 -- ---- the theorem
 
 module _ (b : Board) (bytes chosen : List ℕ) (named : allOf (namedIn (parts bytes)) chosen ≡ true) (whole : clustersWhole b chosen ≡ true) where
-  abbrev start : State
-  start = afterOffer (fresh b) (list bytes)
-
   module _ {m : Memories} (loaded : Loaded b bytes m) where
-    start-listed : listed (start .setup .source) ≡ true
-    unfolding afterOffer taken listed
-    start-listed =
-        ap (λ (t : State). listed (t .setup .source))
-        (cond-true (taken (fresh b) (list bytes)) (fresh b) (ap accepted (fresh-verdict b bytes) ∙ begun loaded .good))
-
-    start-board : start .setup .board ≡ b
-    start-board = list-board (fresh b) bytes ∙ fresh-board b
-
-    by-rules : Noninterference start chosen
+    by-rules : Noninterference (start b bytes) chosen
     unfolding loads listOf
     by-rules = loaded-on b (list bytes) chosen (begun loaded .good) (begun loaded .on-board) named whole
 
-    -- a chosen processor's record words are its record by the rules
     module _ {steps : List Step} (trace : Trace m steps) where
-      words-are : (p : ℕ) → recordAt b (endOf m steps .records) (rowOf b p) ≡ recordOf (run start (callsOf steps)) p
-      words-are p =
-          ap (λ (c : Board). recordAt c (endOf m steps .records) (rowOf c p)) (sym (board-stays (callsOf steps) start start-listed ∙ start-board))
-          ∙ words-at (endOf m steps) (run start (callsOf steps)) p (trace-holds trace start (begun loaded .holds))
-
-      given-are : given (setupOf b bytes) chosen steps ≡ answers (setupOf b bytes) chosen start (callsOf steps)
-      given-are = trace-given (setupOf b bytes) chosen trace start (begun loaded .holds)
+      given-are : given (setupOf b bytes) chosen steps ≡ answers (setupOf b bytes) chosen (start b bytes) (callsOf steps)
+      given-are = trace-given (setupOf b bytes) chosen trace (start b bytes) (begun loaded .holds)
 
       permitted-are : (p : ℕ) → anyOf (eqb p) chosen ≡ true
           → freeOrPermitted (setupOf b bytes) p (recordAt b (endOf m steps .records) (rowOf b p)) ≡ true
       permitted-are p chose =
-          ap (freeOrPermitted (setupOf b bytes) p) (words-are p) ∙ by-rules .always-permitted (callsOf steps) p chose
+          ap (freeOrPermitted (setupOf b bytes) p) (words-are b bytes loaded trace p) ∙ by-rules .always-permitted (callsOf steps) p chose
 
     -- a message after any steps reports what the rules answer after their calls
     last-told : (steps : List Step) (lent : Lent) (before after : Memories) (report : Report) (held : List ℕ)
         → Trace m steps → Trace (endOf m steps) (messageStep lent before after report held ∷ [])
-        → report ≡ answerTo (run start (callsOf steps)) (queryOf lent) .report
+        → report ≡ answerTo (run (start b bytes) (callsOf steps)) (queryOf lent) .report
     unfolding Meets beforeOf
     last-told steps lent before after report held first (step starts meets rest) =
-        let holds : Holds before (run start (callsOf steps)) =
-        held-by (run start (callsOf steps)) starts (trace-holds first start (begun loaded .holds))
-        in
-        ap (λ (a : Answer). a .report) (answer-told (run start (callsOf steps)) before after holds lent (meets .0))
+        let left = run (start b bytes) (callsOf steps) in
+        let holds : Holds before left = held-by left starts (trace-holds first (start b bytes) (begun loaded .holds)) in
+        ap (λ (a : Answer). a .report) (answer-told left before after holds lent (meets .0))
 
 pub of-the-code : OfTheCode
 of-the-code b bytes chosen named whole =
@@ -200,9 +217,9 @@ of-the-code b bytes chosen named whole =
           ∙ sym (given-are b bytes chosen named whole other u);
       same-records =
           λ {m} {n} one other {these} {those} t u same p chose.
-          words-are b bytes chosen named whole one t p
+          words-are b bytes one t p
           ∙ by-rules b bytes chosen named whole one .same-records (callsOf these) (callsOf those) same p chose
-          ∙ sym (words-are b bytes chosen named whole other u p);
+          ∙ sym (words-are b bytes other u p);
       always-permitted = λ loaded trace p chose. permitted-are b bytes chosen named whole loaded trace p chose;
       outsider-refused =
           λ loaded steps lent before after report held trace about out.

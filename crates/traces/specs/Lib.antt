@@ -1,3 +1,4 @@
--- Traces of the code, and demand 3 as a claim about them.
+-- Traces of the code, demand 3 as a claim about them, and what they leave in the tallies.
 pub mod Trace
 pub mod Statement
+pub mod Warranty

@@ -45,7 +45,7 @@ pub record CodeNoninterference (b : Board) (bytes chosen : List ℕ) : Type 0 wh
       → {these those : List Step} → Trace m these → Trace n those
       → picks (setupOf b bytes) chosen (callsOf these) ≡ picks (setupOf b bytes) chosen (callsOf those)
       → given (setupOf b bytes) chosen these ≡ given (setupOf b bytes) chosen those
-  -- and leave the chosen processors the same record words, a cluster's control word among them
+  -- and leave the chosen processors the same record words, a cluster's control word and the tallies among them
   pub same-records :
       {m n : Memories} → Loaded b bytes m → Loaded b bytes n
       → {these those : List Step} → Trace m these → Trace n those

@@ -23,7 +23,7 @@ pub record Memories : Type 0 where
 
 -- a fresh manager's: what the start function leaves, and zeros
 abbrev pub started : Memories
-started = record { board = boardBytes ours; access = replicate 129 0; records = replicate 160 0 }
+started = record { board = boardBytes ours; access = replicate 129 0; records = replicate 288 0 }
 
 -- one call: what it was lent, the memories before and after it, and what it gave: a verdict, a block's report, or a report and what the buffer holds
 pub data Step : Type 0 where

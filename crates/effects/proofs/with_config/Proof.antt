@@ -22,11 +22,11 @@ keeps-vector-requires c κs = search needs
 
 returns : tie.Need-returns
 returns c =
-    let clear = c .before .before .before .u32-at2 .ensures in
-    let kept : keepsVector (configClearOf (now (c .before .before .before .before .before .before .args .message))) ≡ true =
+    let clear = c .before .before .before .before .u32-at2 .ensures in
+    let kept : keepsVector (configClearOf (now (c .before .before .before .before .before .before .before .args .message))) ≡ true =
     ap keepsVector (sym clear) ∙ sym (c .before .keeps-vector .ensures) ∙ c .if1 .taken
     in
-    rw (c .before .before .new-word .ensures, c .before .before .before .before .u32-at .ensures, clear, kept)
+    rw (c .before .before .before .new-word .ensures, c .before .before .before .before .before .u32-at .ensures, clear, kept)
 
 u32-at-requires-3 : tie.Need-u32-at-requires-3
 u32-at-requires-3 c κs = search needs
@@ -36,13 +36,13 @@ u32-at-requires-4 c κs = search needs
 
 returns-2 : tie.Need-returns-2
 returns-2 c =
-    let clear = c .before .before .before .before .before .u32-at2 .ensures in
-    let stored : keepsVector (configClearOf (now (c .before .before .before .before .before .before .before .before .args .message))) ≡ false =
+    let clear = c .before .before .before .before .before .before .u32-at2 .ensures in
+    let stored : keepsVector (configClearOf (now (c .before .before .before .before .before .before .before .before .before .args .message))) ≡ false =
     ap keepsVector (sym clear) ∙ sym (c .before .before .before .keeps-vector .ensures) ∙ c .before .before .if1 .left
     in
     rw (
-      c .before .before .before .before .new-word .ensures,
-      c .before .before .before .before .before .before .u32-at .ensures,
+      c .before .before .before .before .before .new-word .ensures,
+      c .before .before .before .before .before .before .before .u32-at .ensures,
       clear,
       c .before .u32-at3 .ensures,
       c .u32-at4 .ensures,

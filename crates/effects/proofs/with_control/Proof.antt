@@ -13,7 +13,7 @@ new-word-requires : tie.Need-new-word-requires
 new-word-requires c κs = search needs
 
 returns : tie.Need-returns
-returns c = rw (c .new-word .ensures, c .before .before .u32-at .ensures, c .before .u32-at2 .ensures)
+returns c = rw (c .new-word .ensures, c .before .before .before .u32-at .ensures, c .before .before .u32-at2 .ensures)
 
 pub with-control-spec : {M : Type 1} → statement M
 with-control-spec =

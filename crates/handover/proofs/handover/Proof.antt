@@ -1,16 +1,16 @@
--- `handover::handover` meets its contract: N4 to N8 by a law for each, and the new host controls. Assumes nothing.
-use Prim.Native.Nat.{ℕ}
+-- `handover::handover` meets its contract: N4 to N8 by a law for each, and the new host controls, which is counted. Assumes nothing.
 use mathlib.Core.Path.{_≡_, refl, ap, _∙_}
 use mathlib.Core.List.{[]}
 use denote.Ref.{now}
 use Rattle.rules.specs.declared.Kind.the-variants.{Handover}
 use Rattle.rules.specs.Role.{permitted}
 use Rattle.rules.specs.Message.{Query, newHostOf}
-use Rattle.rules.specs.Effect.{heldBy}
 use Rattle.access.specs.Memory.{entryAt}
 use Rattle.board.specs.Memory.{boardIn}
 use Rattle.operations.specs.Operation.{asked}
 use Rattle.operations.proofs.Rows.{Loaded, loaded-at, too-short, off-board, lacks-right, wrong-operands, admitted, refuses, carries-own}
+use Rattle.tallies.specs.Holder.{withHolder}
+use Rattle.tallies.proofs.Counted.{holder-is}
 use borrow.Author.Needs.{needs}
 use Rattle.handover.proofs.handover.Statement.{statement}
 use Rattle.handover.proofs.handover.Tie as tie
@@ -71,24 +71,21 @@ returns-4 c =
     (new-host (c .before))
     (c .if4 .taken))
 
-held-by-requires : tie.Need-held-by-requires
-held-by-requires c κs = search needs
-
-store-own-requires : tie.Need-store-own-requires
-store-own-requires c κs = search needs
+on-handover-requires : tie.Need-on-handover-requires
+on-handover-requires c κs = search needs
 
 returns-5 : tie.Need-returns-5
 returns-5 c =
     let d = c .before .before .before in
-    let l = at-N7 (d .before .before .before .before .before) in
-    let host = d .before .before .byte-at .ensures in
+    let f = d .before .before .before .before in
+    let l = at-N7 f in
     carries-own refl refl l
-    (admitted (l .reached) (d .before .before .before .before .is-controller .ensures) (d .before .before .before .if3 .left)
-    (new-host (d .before))
-    (d .if4 .left))
-    (c .before .held-by .ensures ∙ ap (λ (h : ℕ). heldBy h (d .before .before .before .before .before .load .result)) host)
+    (admitted (l .reached) (d .before .before .before .is-controller .ensures) (d .before .before .if3 .left) (new-host d) (c .before .before .if4 .left))
+    refl
     (λ r. refl)
-    (c .store-own .ensures)
+    (c .on-handover .ensures
+    ∙ ap (withHolder Handover _ _) (d .before .byte-at .ensures)
+    ∙ holder-is _ Handover _ _ _ _ (f .load .ensures) (f .before .before .before .if2 .left))
 
 pub handover-spec : {M : Type 1} → statement M
 handover-spec =
@@ -104,6 +101,5 @@ handover-spec =
     cast-is-permitted
     is-permitted-requires
     returns-4
-    held-by-requires
-    store-own-requires
+    on-handover-requires
     returns-5)

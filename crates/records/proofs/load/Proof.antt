@@ -1,5 +1,6 @@
 -- `records::load` meets its contract: the words of a row, or nothing of its own past the rows, and the control word of the home. Assumes nothing.
 use denote.Ref.{now}
+use Rattle.rules.specs.Tally.{noTallies}
 use Rattle.rules.specs.State.{freeOwn}
 use Rattle.records.proofs.LentMemory.{load-here, load-past}
 use borrow.Author.Needs.{needs}
@@ -36,20 +37,25 @@ add-word-at-3 c = search needs
 word-at-requires-5 : tie.Need-word-at-requires-5
 word-at-requires-5 c κs = search needs
 
+load-tallies-requires : tie.Need-load-tallies-requires
+load-tallies-requires c κs = search needs
+
 returns : tie.Need-returns
 returns c =
-    let d = c .before .before .before .before .before .before in
+    let d = c .before .before .before .before .before .before .before in
     rw (
-      c .before .before .before .word-at2 .ensures,
-      c .before .before .word-at3 .ensures,
-      c .before .word-at4 .ensures,
-      c .word-at5 .ensures,
-      c .before .before .before .before .before .word-at .ensures,
+      c .before .before .before .before .word-at2 .ensures,
+      c .before .before .before .word-at3 .ensures,
+      c .before .before .word-at4 .ensures,
+      c .before .word-at5 .ensures,
+      c .load-tallies .ensures,
+      c .before .before .before .before .before .before .word-at .ensures,
     )
-    (load-here _ (now (d .before .before .args .records)) (d .before .before .args .row) (d .control-place .ensures .0) (c .before .before .before .before .if1 .taken))
+    (load-here _ (now (d .before .before .args .records)) (d .before .before .args .row) (d .control-place .ensures .0)
+    (c .before .before .before .before .before .if1 .taken))
 
 returns-2 : tie.Need-returns-2
-unfolding freeOwn
+unfolding freeOwn noTallies
 returns-2 c =
     let d = c .before .before in
     rw (c .before .word-at .ensures)
@@ -69,5 +75,6 @@ load-spec =
     word-at-requires-4
     add-word-at-3
     word-at-requires-5
+    load-tallies-requires
     returns
     returns-2)

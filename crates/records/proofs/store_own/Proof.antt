@@ -1,4 +1,5 @@
 -- `records::store_own` meets its contract. Assumes nothing.
+use native.Mathlib.Numerals.{towards-suc}
 use borrow.Author.Tests.{lt-ltb, le-ltb}
 use Rattle.records.specs.Memory.{withOwn}
 use borrow.Author.Needs.{needs}
@@ -41,9 +42,45 @@ mul-records-4 c = search needs
 element-write-records-4 : tie.Need-element-write-records-4
 element-write-records-4 c = search needs
 
+add-records-4 : tie.Need-add-records-4
+add-records-4 c = search needs
+
+mul-records-5 : tie.Need-mul-records-5
+mul-records-5 c = search needs
+
+element-write-records-5 : tie.Need-element-write-records-5
+element-write-records-5 c = search needs
+
+add-records-5 : tie.Need-add-records-5
+add-records-5 c = search needs
+
+mul-records-6 : tie.Need-mul-records-6
+mul-records-6 c = search needs
+
+element-write-records-6 : tie.Need-element-write-records-6
+element-write-records-6 c = search needs
+
+add-records-6 : tie.Need-add-records-6
+add-records-6 c = search needs
+
+mul-records-7 : tie.Need-mul-records-7
+mul-records-7 c = search needs
+
+element-write-records-7 : tie.Need-element-write-records-7
+element-write-records-7 c = search needs
+
+add-records-7 : tie.Need-add-records-7
+add-records-7 c = search needs
+
+mul-records-8 : tie.Need-mul-records-8
+mul-records-8 c = search needs
+
+element-write-records-8 : tie.Need-element-write-records-8
+element-write-records-8 c = search needs
+
 returns : tie.Need-returns
 unfolding withOwn
-returns c = rw (lt-ltb _ _ (c .if1 .taken))
+returns c = rw (lt-ltb _ _ (c .if1 .taken)) (simp towards-suc)
 
 returns-2 : tie.Need-returns-2
 unfolding withOwn
@@ -65,5 +102,17 @@ store-own-spec =
     add-records-3
     mul-records-4
     element-write-records-4
+    add-records-4
+    mul-records-5
+    element-write-records-5
+    add-records-5
+    mul-records-6
+    element-write-records-6
+    add-records-6
+    mul-records-7
+    element-write-records-7
+    add-records-7
+    mul-records-8
+    element-write-records-8
     returns
     returns-2)

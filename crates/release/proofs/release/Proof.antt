@@ -1,5 +1,5 @@
--- `release::release` meets its contract: N4, N6 and N7 by a law for each, and nobody controls. Assumes nothing.
-use mathlib.Core.Path.{refl}
+-- `release::release` meets its contract: N4, N6 and N7 by a law for each, and nobody controls, which is counted. Assumes nothing.
+use mathlib.Core.Path.{refl, _∙_}
 use mathlib.Core.List.{[]}
 use denote.Ref.{now}
 use Rattle.rules.specs.declared.Kind.the-variants.{Release}
@@ -7,6 +7,7 @@ use Rattle.rules.specs.Message.{Query}
 use Rattle.board.specs.Memory.{boardIn}
 use Rattle.operations.specs.Operation.{asked}
 use Rattle.operations.proofs.Rows.{Loaded, loaded-at, too-short, off-board, lacks-right, admitted, refuses, carries-own}
+use Rattle.tallies.proofs.Counted.{holder-is}
 use borrow.Author.Needs.{needs}
 use Rattle.release.proofs.release.Statement.{statement}
 use Rattle.release.proofs.release.Tie as tie
@@ -43,21 +44,19 @@ returns-3 : tie.Need-returns-3
 returns-3 c access =
     refuses (lacks-right (at-N7 (c .before .before) .reached) (c .before .is-controller .ensures) (c .if3 .taken))
 
-held-by-requires : tie.Need-held-by-requires
-held-by-requires c κs = search needs
-
-store-own-requires : tie.Need-store-own-requires
-store-own-requires c κs = search needs
+on-release-requires : tie.Need-on-release-requires
+on-release-requires c κs = search needs
 
 returns-4 : tie.Need-returns-4
 returns-4 c access =
-    let d = c .before .before .before in
-    let l = at-N7 (d .before .before) in
+    let d = c .before .before in
+    let f = d .before .before in
+    let l = at-N7 f in
     carries-own refl refl l
     (admitted (l .reached) (d .before .is-controller .ensures) (d .if3 .left) refl refl)
-    (c .before .held-by .ensures)
+    refl
     (λ r. refl)
-    (c .store-own .ensures)
+    (c .on-release .ensures ∙ holder-is _ Release _ _ _ _ (f .load .ensures) (f .before .before .before .if2 .left))
 
 pub release-spec : {M : Type 1} → statement M
 release-spec =
@@ -69,6 +68,5 @@ release-spec =
     load-requires
     is-controller-requires
     returns-3
-    held-by-requires
-    store-own-requires
+    on-release-requires
     returns-4)

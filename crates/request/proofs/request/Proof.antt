@@ -1,4 +1,4 @@
--- `request::request` meets its contract: N4, N6 and N7 by a law for each, and the sender controls; from N7 on with its role. Assumes nothing.
+-- `request::request` meets its contract: N4, N6 and N7 by a law for each, and the sender controls, which is counted; from N7 on with its role. Assumes nothing.
 use mathlib.Core.Path.{_≡_, refl, ap, _∙_}
 use mathlib.Core.List.{[]}
 use denote.Ref.{now}
@@ -11,6 +11,7 @@ use Rattle.access.specs.Memory.{entryAt}
 use Rattle.board.specs.Memory.{boardIn}
 use Rattle.operations.specs.Operation.{asked}
 use Rattle.operations.proofs.Rows.{Loaded, loaded-at, too-short, off-board, lacks-right, admitted, refuses, carries-own, requests-early, requests-late}
+use Rattle.tallies.proofs.Counted.{holder-is}
 use borrow.Author.Needs.{needs}
 use Rattle.request.proofs.request.Statement.{statement}
 use Rattle.request.proofs.request.Tie as tie
@@ -74,11 +75,8 @@ returns-3 c =
     requests-late l (refuses (lacks-right (l .reached) (right d) (c .before .if3 .taken))) refl (d .before .role-of .ensures)
     (c .with-role3 .ensures)
 
-held-by-requires : tie.Need-held-by-requires
-held-by-requires c κs = search needs
-
-store-own-requires : tie.Need-store-own-requires
-store-own-requires c κs = search needs
+on-request-requires : tie.Need-on-request-requires
+on-request-requires c κs = search needs
 
 with-role-requires-4 : tie.Need-with-role-requires-4
 with-role-requires-4 c κs = search needs
@@ -86,14 +84,15 @@ with-role-requires-4 c κs = search needs
 returns-4 : tie.Need-returns-4
 unfolding carriedOut
 returns-4 c =
-    let d = c .before .before .before .before .before in
-    let l = at-N7 (d .before .before) in
+    let d = c .before .before .before .before in
+    let f = d .before .before in
+    let l = at-N7 f in
     requests-late l
     (carries-own refl refl l
-    (admitted (l .reached) (right d) (c .before .before .before .before .if3 .left) refl refl)
-    (c .before .before .held-by .ensures)
+    (admitted (l .reached) (right d) (c .before .before .before .if3 .left) refl refl)
+    refl
     (λ r. refl)
-    (c .before .store-own .ensures))
+    (c .before .on-request .ensures ∙ holder-is _ Request _ _ _ _ (f .load .ensures) (f .before .before .before .if2 .left)))
     refl
     (d .before .role-of .ensures)
     (c .with-role4 .ensures)
@@ -112,7 +111,6 @@ request-spec =
     may-request-requires
     with-role-requires-3
     returns-3
-    held-by-requires
-    store-own-requires
+    on-request-requires
     with-role-requires-4
     returns-4)

@@ -21,8 +21,8 @@ returns c =
     let a = c .before .before .before .before .before .before .before .before .before .before .before .before .args in
     let d = c .before .before .before .before .before .before in
     let la : length (now (a .access)) ≡ 129 = search needs in
-    let left : length (d .decide .last .1 .1 .0) ≡ 160 = search needs in
-    let lm : length (now (a .records)) ≡ 160 = sym (memory-length _ _ _ (now (a .records)) _) ∙ sym (ap length (d .decide .ensures .records)) ∙ left in
+    let left : length (d .decide .last .1 .1 .0) ≡ 288 = search needs in
+    let lm : length (now (a .records)) ≡ 288 = sym (memory-length _ _ _ (now (a .records)) _) ∙ sym (ap length (d .decide .ensures .records)) ∙ left in
     message-call _ (now (a .access)) (now (a .records)) (a .channel) (now (a .message)) (now (a .status)) (now (a .answer)) la lm
     (d .decide .result) (c .before .before .write-answer .result) _ _
     (d .decide .ensures)
