@@ -7,7 +7,7 @@ use crate::message::{
     LONGEST_MESSAGE,
 };
 use crate::outcome::{Outcome, Report};
-use crate::record::{Record, RecordMemory};
+use crate::record::{Record, RecordMemory, Tallies};
 use crate::wait::Wait;
 
 /// Bit of the clear word of set config: the vector fields are neither checked nor stored.
@@ -164,9 +164,9 @@ impl Target<'_> {
     /// What a sender with the right to the order gets: N8, R3, N9 or OK.
     fn carry_out(&self, order: &Order, call: &Call) -> Ending {
         match order {
-            Order::Request => self.controlled_by(call.channel),
-            Order::Release => self.controlled_by(0),
-            Order::Handover { host } if self.permits(*host) => self.controlled_by(*host),
+            Order::Request => self.requested(call.channel),
+            Order::Release => self.released(),
+            Order::Handover { host } if self.permits(*host) => self.handed_over(*host),
             Order::Handover { .. } => Ending::plain(Outcome::N8),
             Order::SetConfig(change) => self.set(self.with_config(change)),
             Order::SetControl(flags) => self.set(self.with_control(*flags)),
@@ -175,9 +175,40 @@ impl Target<'_> {
         }
     }
 
-    /// OK with another controller, or with none for 0. The other fields are kept.
-    fn controlled_by(&self, host: u8) -> Ending {
-        self.set(Some(Record { controller: u32::from(host), ..self.record }))
+    /// The sender controls. That is a grant of a free processor and an override of one that another
+    /// host had; a recovery master that had it counts nowhere.
+    fn requested(&self, sender: u8) -> Ending {
+        let tallies = self.record.tallies;
+        if self.record.is_free() {
+            let grants = one_more(tallies.grants);
+            return self.controlled_by(sender, Tallies { grants, ..tallies });
+        }
+        if self.record.is_controlled_by(sender) {
+            return self.controlled_by(sender, tallies);
+        }
+        let overrides = one_more(tallies.overrides);
+        self.controlled_by(sender, Tallies { overrides, ..tallies })
+    }
+
+    /// No host controls.
+    fn released(&self) -> Ending {
+        let releases = one_more(self.record.tallies.releases);
+        self.controlled_by(0, Tallies { releases, ..self.record.tallies })
+    }
+
+    /// The new host controls. One that did already counts nowhere.
+    fn handed_over(&self, host: u8) -> Ending {
+        let tallies = self.record.tallies;
+        if self.record.is_controlled_by(host) {
+            return self.controlled_by(host, tallies);
+        }
+        let handovers = one_more(tallies.handovers);
+        self.controlled_by(host, Tallies { handovers, ..tallies })
+    }
+
+    /// OK with this controller, none for 0, and these tallies. The other fields are kept.
+    fn controlled_by(&self, host: u8, tallies: Tallies) -> Ending {
+        self.set(Some(Record { controller: u32::from(host), tallies, ..self.record }))
     }
 
     /// OK with the new record, or N8 if the operands allow none.
@@ -222,6 +253,11 @@ impl Target<'_> {
             }
         }
     }
+}
+
+/// The tally after one more message: it stays at the largest number once there.
+fn one_more(tally: u32) -> u32 {
+    tally.saturating_add(1)
 }
 
 /// The word with the set bits added and the clear bits removed, or none if a bit is named that may

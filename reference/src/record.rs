@@ -2,15 +2,35 @@
 
 use crate::board::{Board, ROWS};
 
-/// Words of record memory: four a row, then the control words.
+/// Words of record memory: eight a row, then the control words.
 pub const RECORD_WORDS: usize = CONTROLS + ROWS;
 
 /// Record memory as it is lent: by row what is a processor's own, and behind all rows the control
 /// words, each at the place of its home. Any content is a state.
 pub type RecordMemory = [u32; RECORD_WORDS];
 
-const OWN_WORDS: usize = 4;
+const OWN_WORDS: usize = 8;
 const CONTROLS: usize = OWN_WORDS * ROWS;
+
+/// How many messages that were carried out changed a processor's controller, by the way they did.
+/// Each number stays at the largest that a word holds once it is there.
+#[derive(Clone, Copy, Debug, Default, PartialEq, Eq)]
+pub struct Tallies {
+    /// requests granted while the processor was free
+    pub grants: u32,
+    /// requests that took it from another host
+    pub overrides: u32,
+    /// handovers to another host
+    pub handovers: u32,
+    pub releases: u32,
+}
+
+impl Tallies {
+    /// The tallies in the order in which memory has them.
+    pub fn from_words([grants, overrides, handovers, releases]: [u32; 4]) -> Tallies {
+        Tallies { grants, overrides, handovers, releases }
+    }
+}
 
 /// One processor's record.
 #[derive(Clone, Copy, Debug, PartialEq, Eq)]
@@ -20,6 +40,7 @@ pub struct Record {
     pub vector_low: u32,
     pub vector_high: u32,
     pub config: u32,
+    pub tallies: Tallies,
     /// one word for all processors with the same home
     pub control: u32,
 }
@@ -33,13 +54,24 @@ impl Record {
             vector_low: own[1],
             vector_high: own[2],
             config: own[3],
+            tallies: Tallies::from_words([own[4], own[5], own[6], own[7]]),
             control: memory[CONTROLS + board.home_at(row)],
         }
     }
 
     /// Writes the record to a row, and its control word to its home.
     pub fn store(&self, board: &Board, memory: &mut RecordMemory, row: usize) {
-        let own = [self.controller, self.vector_low, self.vector_high, self.config];
+        let Tallies { grants, overrides, handovers, releases } = self.tallies;
+        let own = [
+            self.controller,
+            self.vector_low,
+            self.vector_high,
+            self.config,
+            grants,
+            overrides,
+            handovers,
+            releases,
+        ];
         memory[OWN_WORDS * row..][..OWN_WORDS].copy_from_slice(&own);
         memory[CONTROLS + board.home_at(row)] = self.control;
     }
@@ -59,51 +91,55 @@ impl Record {
 mod tests {
     use super::*;
 
-    /// The record of a row where each word holds its place, and the words that a store of other
-    /// numbers changes.
-    fn counted(board: &Board, row: usize) -> (Record, Vec<usize>) {
+    /// The record with these words of its own, in their order, and this control word.
+    fn record_of(own: [u32; 8], control: u32) -> Record {
+        let [controller, vector_low, vector_high, config, grants, overrides, handovers, releases] =
+            own;
+        let tallies = Tallies { grants, overrides, handovers, releases };
+        Record { controller, vector_low, vector_high, config, tallies, control }
+    }
+
+    /// The record of a row where each word holds its place, and the words with their places that a
+    /// store of other numbers changes.
+    fn stored(board: &Board, row: usize) -> (Record, Vec<(usize, u32)>) {
         let mut memory: RecordMemory = std::array::from_fn(|i| i as u32);
         let record = Record::load(board, &memory, row);
-        let other = Record {
-            controller: 990,
-            vector_low: 991,
-            vector_high: 992,
-            config: 993,
-            control: 994,
-        };
-        other.store(board, &mut memory, row);
-        (record, (0..RECORD_WORDS).filter(|&i| memory[i] != i as u32).collect())
+        record_of([990, 991, 992, 993, 994, 995, 996, 997], 998).store(board, &mut memory, row);
+        let changed = (0..RECORD_WORDS).filter(|&i| memory[i] != i as u32);
+        (record, changed.map(|i| (i, memory[i])).collect())
+    }
+
+    /// What `stored` gives of a row whose words begin here and whose control word is there.
+    fn at(own: usize, control: usize) -> (Record, Vec<(usize, u32)>) {
+        let record = record_of(std::array::from_fn(|i| (own + i) as u32), control as u32);
+        let mut changed: Vec<_> = (own..own + 8).zip(990..).collect();
+        changed.push((control, 998));
+        (record, changed)
     }
 
     #[test]
-    fn rows_are_four_words_and_a_control_word() {
-        let record =
-            Record { controller: 4, vector_low: 5, vector_high: 6, config: 7, control: 129 };
-        assert_eq!(counted(&Board::first(), 1), (record, vec![4, 5, 6, 7, 129]));
-        let record = Record {
-            controller: 124,
-            vector_low: 125,
-            vector_high: 126,
-            config: 127,
-            control: 159,
-        };
-        assert_eq!(counted(&Board::first(), 31), (record, vec![124, 125, 126, 127, 159]));
+    fn memory_is_288_words() {
+        assert_eq!(RECORD_WORDS, 288);
     }
 
     #[test]
-    fn second_core_has_the_word_of_the_first() {
-        let record =
-            Record { controller: 12, vector_low: 13, vector_high: 14, config: 15, control: 130 };
-        assert_eq!(counted(&Board::first(), 3), (record, vec![12, 13, 14, 15, 130]));
+    fn rows_are_eight_words_and_a_control_word() {
+        assert_eq!(stored(&Board::first(), 0), at(0, 256));
+        assert_eq!(stored(&Board::first(), 1), at(8, 257));
+        assert_eq!(stored(&Board::first(), 31), at(248, 287));
+    }
+
+    #[test]
+    fn second_core_has_the_control_word_of_the_first() {
+        assert_eq!(stored(&Board::first(), 2), at(16, 258));
+        assert_eq!(stored(&Board::first(), 3), at(24, 258));
     }
 
     #[test]
     fn homes_are_taken_as_the_board_has_them() {
         let mut board = Board::first();
         board.0[544] = 32 + 31;
-        let record =
-            Record { controller: 0, vector_low: 1, vector_high: 2, config: 3, control: 159 };
-        assert_eq!(counted(&board, 0), (record, vec![0, 1, 2, 3, 159]));
+        assert_eq!(stored(&board, 0), at(0, 287));
     }
 
     #[test]

@@ -44,7 +44,7 @@ extern "C" {
 }
 
 // The lengths that the C declarations name.
-const _: () = assert!(BOARD_BYTES == 576 && ACCESS_WORDS == 129 && RECORD_WORDS == 160);
+const _: () = assert!(BOARD_BYTES == 576 && ACCESS_WORDS == 129 && RECORD_WORDS == 288);
 
 /// What the message call gave: outcome number, checks, microseconds, bytes written, role number.
 #[derive(Clone, Copy, Debug, PartialEq, Eq)]

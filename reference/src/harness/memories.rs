@@ -7,7 +7,7 @@ use crate::harness::clusters::Clusters;
 use crate::harness::descriptions::{first_fields, good_fields};
 use crate::harness::lists::good_list;
 use crate::harness::random::Random;
-use crate::record::{Record, RecordMemory, RECORD_WORDS};
+use crate::record::{Record, RecordMemory, Tallies, RECORD_WORDS};
 
 /// Words or bytes on each side of what is lent, which must keep their values.
 pub const GUARD: usize = 5;
@@ -17,6 +17,25 @@ const BOARD_PARTS: [usize; 5] = [0, 256, 512, 544, BOARD_BYTES];
 
 /// Where board memory has the place of processor 0, which no description lists.
 const PLACE_OF_0: usize = BOARD_PARTS[1];
+
+/// Tallies worth trying besides small and random ones: those at the largest number and just below
+/// it, and those where one more changes several bytes or the highest bit.
+const ODD_TALLIES: [u32; 14] = [
+    u32::MAX,
+    u32::MAX,
+    u32::MAX,
+    u32::MAX - 1,
+    u32::MAX - 1,
+    0x7FFF_FFFF,
+    0x8000_0000,
+    0xFFFF_FF00,
+    0xFF_FFFF,
+    0x1_0000,
+    0xFFFF,
+    0xFFFF,
+    0x100,
+    0xFF,
+];
 
 /// A lent board, and the clusters that its description named.
 pub struct LentBoard {
@@ -78,7 +97,7 @@ pub fn any_access(random: &mut Random, board: &Board) -> AccessMemory {
 /// Changes a word of some processor's row: to one that has a byte in common with a host of the row
 /// or with no host, or to 0.
 fn blur_entry(random: &mut Random, board: &Board, access: &mut AccessMemory) {
-    let rows: Vec<_> = board.processors().iter().filter_map(|&p| board.row_of(p)).collect();
+    let rows = processor_rows(board);
     if rows.is_empty() {
         return;
     }
@@ -106,6 +125,7 @@ pub fn any_records(random: &mut Random, board: &Board) -> RecordMemory {
             vector_low: random.u32(),
             vector_high: random.u32(),
             config: random.u32() & flag_mask(class, Word::Config),
+            tallies: any_tallies(random),
             control: random.u32() & flag_mask(class, Word::Control),
         };
         record.store(board, &mut records, row);
@@ -115,7 +135,42 @@ pub fn any_records(random: &mut Random, board: &Board) -> RecordMemory {
         let near = records[word] ^ random.pick(&[0x100, 0x1_0000, 0x1000_0000, 0x8000_0000]);
         records[word] = random.pick_or(&[0, near, near], Random::u32);
     }
+    for _ in 0..random.pick(&[0, 0, 1, 4]) {
+        blur_controller(random, board, &mut records);
+    }
     records
+}
+
+/// Tallies that calls may have left, or not: each has a number of its own.
+fn any_tallies(random: &mut Random) -> Tallies {
+    Tallies::from_words([(); 4].map(|()| any_tally(random)))
+}
+
+fn any_tally(random: &mut Random) -> u32 {
+    match random.below(8) {
+        0 | 1 => 0,
+        2 | 3 => random.below(10) as u32,
+        4 => random.u32(),
+        _ => random.pick(&ODD_TALLIES),
+    }
+}
+
+/// Gives some processor a controller word that is no byte and has a host's number as its low byte.
+fn blur_controller(random: &mut Random, board: &Board, records: &mut RecordMemory) {
+    let rows = processor_rows(board);
+    if rows.is_empty() {
+        return;
+    }
+    let row = random.pick(&rows);
+    let mut record = Record::load(board, records, row);
+    let high = random.pick(&[0x100, 0x100, 0x1_0000, 0x8000_0000]);
+    record.controller = u32::from(random.pick(&hosts_and_none(board))) | high;
+    record.store(board, records, row);
+}
+
+/// The rows that processors have, by rising number of these.
+fn processor_rows(board: &Board) -> Vec<usize> {
+    board.processors().iter().filter_map(|&number| board.row_of(number)).collect()
 }
 
 /// The hosts of the board, with one place in eight for no host.

@@ -1,5 +1,5 @@
-//! The message call over memories that lists cannot leave, the order of its tests, and the role
-//! that it reports.
+//! The message call over memories that lists cannot leave, the order of its tests, the role that it
+//! reports, and the tallies.
 
 use super::*;
 use crate::access::{row_words_mut, ACCESS_WORDS, ROLES};
@@ -83,7 +83,7 @@ fn outcomes_come_in_order() {
 
 #[test]
 fn refusals_change_no_record_and_answer_nak() {
-    let held = records_with(&[(0, 5), (3, 0x100), (128, 1)]);
+    let held = records_with(&[(0, 5), (3, 0x100), (256, 1)]);
     let (report, records, answer) = run(LISTED, held, "01 C0 03 09 02 00 00 00 01", &[]);
     assert_eq!((report.outcome, report.written), (Outcome::N7, 8));
     assert_eq!(records, held);
@@ -93,7 +93,7 @@ fn refusals_change_no_record_and_answer_nak() {
 
 #[test]
 fn status_answer_is_29_bytes_and_no_more_is_written() {
-    let held = records_with(&[(1, 0x0403_0201), (2, 5), (3, 0x100), (128, 3)]);
+    let held = records_with(&[(1, 0x0403_0201), (2, 5), (3, 0x100), (256, 3)]);
     let (report, records, answer) = run(LISTED, held, "00 C4 05 01 FF 00 00 00 01", &[0x13, 7]);
     assert_eq!((report.outcome, report.written), (Outcome::OK, 29));
     assert_eq!(records, held);
@@ -107,7 +107,7 @@ fn status_answer_is_29_bytes_and_no_more_is_written() {
 fn nothing_is_written_unless_asked_for() {
     let (report, records, answer) = run(LISTED, NO_RECORDS, "00 C0 05 01 FD FF FF FF 01", &[]);
     assert_eq!((report.outcome, report.written), (Outcome::OK, 0));
-    assert_eq!(records, records_with(&[(0, 5)]));
+    assert_eq!(records, records_with(&[(0, 5), (4, 1)]));
     assert!(answer.iter().all(|&byte| byte == 0xEE));
 }
 
@@ -131,9 +131,9 @@ fn channel_has_to_be_a_board_host_and_the_header_host() {
 fn processor_without_entry_is_open() {
     let request = "00 C0 0D 01 02 00 00 00 20";
     assert_eq!(outcome(LISTED, NO_RECORDS, request), Outcome::OK);
-    assert_eq!(outcome(LISTED, records_with(&[(8, 13)]), request), Outcome::N7);
+    assert_eq!(outcome(LISTED, records_with(&[(16, 13)]), request), Outcome::N7);
     let handover = "05 C0 0D 01 02 00 00 00 20";
-    let to = |host: &str| outcome(LISTED, records_with(&[(8, 13)]), &[handover, host].join(" "));
+    let to = |host: &str| outcome(LISTED, records_with(&[(16, 13)]), &[handover, host].join(" "));
     assert_eq!([to("0C"), to("0D"), to("00"), to("07")], {
         use Outcome::{N8, OK};
         [OK, OK, N8, N8]
@@ -155,26 +155,26 @@ fn odd_memory_is_judged_by_full_words() {
 
 #[test]
 fn set_words_add_and_remove_bits() {
-    let held = records_with(&[(8, 3), (11, 0x1000_0009), (130, 0x103)]);
+    let held = records_with(&[(16, 3), (19, 0x1000_0009), (258, 0x103)]);
     let config = "00 C1 03 01 02 00 00 00 20 01 00 00 00 02 00 00 00 06 01 00 00 01 00 00 00";
     let (report, records, _) = run(LISTED, held, config, &[]);
     assert_eq!(report.outcome, Outcome::OK);
-    assert_eq!(records[8..12], [3, 1, 2, 0x1000_010E]);
-    assert_eq!(records[128..132], [0, 0, 0x103, 0]);
+    assert_eq!(records[16..24], [3, 1, 2, 0x1000_010E, 0, 0, 0, 0]);
+    assert_eq!(records[256..260], [0, 0, 0x103, 0]);
     let control = "01 C1 03 01 02 00 00 00 20 02 00 00 00 01 01 00 00";
     let (report, records, _) = run(LISTED, held, control, &[]);
     assert_eq!(report.outcome, Outcome::OK);
-    assert_eq!(records[8..12], [3, 0, 0, 0x1000_0009]);
-    assert_eq!(records[128..132], [0, 0, 2, 0]);
+    assert_eq!(records[16..24], [3, 0, 0, 0x1000_0009, 0, 0, 0, 0]);
+    assert_eq!(records[256..260], [0, 0, 2, 0]);
 }
 
 #[test]
 fn set_through_the_second_core_changes_the_word_of_the_first() {
-    let held = records_with(&[(8, 5), (130, 0x8000_0103), (12, 3), (131, 0xEEEE_EEEE)]);
+    let held = records_with(&[(16, 5), (258, 0x8000_0103), (24, 3), (259, 0xEEEE_EEEE)]);
     let control = "01 C1 03 01 02 00 00 00 21 00 00 00 00 01 01 00 00";
     let (report, records, _) = run(LISTED, held, control, &[]);
     assert_eq!(report.outcome, Outcome::OK);
-    let changed = [(8, 5), (130, 0x8000_0002), (12, 3), (131, 0xEEEE_EEEE)];
+    let changed = [(16, 5), (258, 0x8000_0002), (24, 3), (259, 0xEEEE_EEEE)];
     assert_eq!(records, records_with(&changed));
     let (_, _, answer) = run(LISTED, records, "00 C4 03 01 02 00 00 00 21", &[0]);
     assert_eq!(answer[21..25], bytes_of("02 00 00 80"));
@@ -184,7 +184,7 @@ fn set_through_the_second_core_changes_the_word_of_the_first() {
 /// nothing, and it keeps its value.
 #[test]
 fn place_of_no_home_is_not_used() {
-    const PLACE: usize = 128 + 3;
+    const PLACE: usize = 256 + 3;
     let (mut random, goals, board) = (Random::new(7, 0), goals(), Board::first());
     for _ in 0..20_000 {
         let access = any_access(&mut random, &board);
@@ -218,7 +218,7 @@ fn bit_28_keeps_the_vector_and_is_never_stored() {
 
 #[test]
 fn wrong_flags_are_refused() {
-    let held = records_with(&[(0, 3), (8, 3)]);
+    let held = records_with(&[(0, 3), (16, 3)]);
     let control = |processor: &str, words: &str| {
         outcome(LISTED, held, &["01 C1 03 01 02 00 00 00", processor, words].join(" "))
     };
@@ -244,7 +244,7 @@ fn too_few_words_come_before_an_early_run() {
 /// Waits 3 and matches 4, with no words, with as many as waits and with as many as matches.
 #[test]
 fn matches_above_waits_come_before_the_words() {
-    let held = records_with(&[(0, 3), (1, 0x80), (3, 0x100), (128, 1)]);
+    let held = records_with(&[(0, 3), (1, 0x80), (3, 0x100), (256, 1)]);
     let rest = "01 03 04 02 05 01 00 00 00 00 00 00 00 00 00 00 00 00 00 00 00";
     let nak = bytes_of("01 C4 03 0E 00 00 00 00");
     for status in [&[][..], &[1; 3], &[0; 3], &[1; 4]] {
@@ -266,7 +266,7 @@ fn two_processors_on_one_row_have_one_record() {
     let mut board = Board::first();
     board.0[256 + 200] = 0;
     let setup = Setup { board: &board, access: &LISTED };
-    let records = records_with(&[(0, 3), (1, 0x80), (128, 2)]);
+    let records = records_with(&[(0, 3), (1, 0x80), (256, 2)]);
     for processor in [1, 200] {
         let mut message = bytes_of("00 C4 03 01 02 00 00 00 00");
         message[8] = processor;
@@ -284,7 +284,7 @@ fn odd_boards_are_read_as_they_are() {
     let mut board = Board::first();
     (board.0[77], board.0[256], board.0[512 + 9], board.0[544 + 9]) = (0xFF, 9, 0x80, 0xE1);
     let setup = Setup { board: &board, access: &LISTED };
-    let mut records = records_with(&[(36, 77), (129, 1)]);
+    let mut records = records_with(&[(72, 77), (257, 1)]);
     let mut judged = |text: &str| {
         let message = bytes_of(text);
         let call = Call { channel: 77, message: &message, status: &[0x13] };
@@ -292,7 +292,7 @@ fn odd_boards_are_read_as_they_are() {
     };
     assert_eq!(judged("01 C1 4D 01 02 00 00 00 00 00 01 00 00 00 00 00 00"), Outcome::N8);
     assert_eq!(judged("01 C1 4D 01 02 00 00 00 00 02 00 00 00 01 00 00 00"), Outcome::OK);
-    assert_eq!(records, records_with(&[(36, 77), (129, 2)]));
+    assert_eq!(records, records_with(&[(72, 77), (257, 2)]));
 }
 
 /// What `LISTED` leaves, with these words for processor 1.
@@ -457,5 +457,168 @@ fn role_is_told_of_requests_from_n7_on() {
             Role::None
         };
         assert_eq!(report.role, expected, "{message:x?}");
+    }
+}
+
+/// The words of processor 1 after a message, in a memory where it has this controller and these
+/// tallies; the outcome comes first. All other words have to stay.
+fn counted(controller: u32, tallies: [u32; 4], text: &str) -> (Outcome, u32, [u32; 4]) {
+    let mut before: RecordMemory = std::array::from_fn(|i| 0x7700 + i as u32);
+    before[0] = controller;
+    before[4..8].copy_from_slice(&tallies);
+    let (report, records, _) = run(entry_of([3, 5, 10, 0]), before, text, &[0x13]);
+    for place in (0..RECORD_WORDS).filter(|place| ![0, 4, 5, 6, 7].contains(place)) {
+        assert_eq!(records[place], before[place], "word {place}, {text}");
+    }
+    let tallies = [records[4], records[5], records[6], records[7]];
+    (report.outcome, records[0], tallies)
+}
+
+const REQUEST_BY_3: &str = "00 C0 03 01 02 00 00 00 01";
+const REQUEST_BY_5: &str = "00 C0 05 01 02 00 00 00 01";
+const RELEASE_BY_3: &str = "01 C0 03 01 02 00 00 00 01";
+const RELEASE_BY_5: &str = "01 C0 05 01 02 00 00 00 01";
+
+/// Handovers by host 3 and by host 5, which lack the new host.
+const HANDOVER_BY_3: &str = "05 C0 03 01 02 00 00 00 01 ";
+const HANDOVER_BY_5: &str = "05 C0 05 01 02 00 00 00 01 ";
+
+const MOST: u32 = 4_294_967_295;
+
+#[test]
+fn request_of_a_free_processor_counts_a_grant() {
+    for (text, host) in [(REQUEST_BY_3, 3), (REQUEST_BY_5, 5)] {
+        let given = counted(0, [10, 20, 30, 40], text);
+        assert_eq!(given, (Outcome::OK, host, [11, 20, 30, 40]));
+    }
+}
+
+#[test]
+fn request_that_takes_the_processor_counts_an_override() {
+    for controller in [5, 10, 6, 0x103, 0x8000_0003, MOST] {
+        let given = counted(controller, [10, 20, 30, 40], REQUEST_BY_3);
+        assert_eq!(given, (Outcome::OK, 3, [10, 21, 30, 40]));
+    }
+}
+
+#[test]
+fn request_of_what_the_master_holds_counts_nowhere() {
+    assert_eq!(counted(3, [10, 20, 30, 40], REQUEST_BY_3), (Outcome::OK, 3, [10, 20, 30, 40]));
+    assert_eq!(counted(3, [MOST; 4], REQUEST_BY_3), (Outcome::OK, 3, [MOST; 4]));
+}
+
+#[test]
+fn handover_to_another_host_counts() {
+    let to_5 = counted(3, [10, 20, 30, 40], &format!("{HANDOVER_BY_3}05"));
+    assert_eq!(to_5, (Outcome::OK, 5, [10, 20, 31, 40]));
+    let to_3 = counted(5, [10, 20, 30, 40], &format!("{HANDOVER_BY_5}03"));
+    assert_eq!(to_3, (Outcome::OK, 3, [10, 20, 31, 40]));
+}
+
+#[test]
+fn handover_to_oneself_counts_nowhere() {
+    let by_3 = counted(3, [10, 20, 30, 40], &format!("{HANDOVER_BY_3}03"));
+    assert_eq!(by_3, (Outcome::OK, 3, [10, 20, 30, 40]));
+    let by_5 = counted(5, [10, 20, 30, 40], &format!("{HANDOVER_BY_5}05"));
+    assert_eq!(by_5, (Outcome::OK, 5, [10, 20, 30, 40]));
+}
+
+#[test]
+fn release_counts() {
+    assert_eq!(counted(3, [10, 20, 30, 40], RELEASE_BY_3), (Outcome::OK, 0, [10, 20, 30, 41]));
+    assert_eq!(counted(5, [10, 20, 30, 40], RELEASE_BY_5), (Outcome::OK, 0, [10, 20, 30, 41]));
+}
+
+#[test]
+fn tallies_stay_at_the_largest_number() {
+    let handover = format!("{HANDOVER_BY_3}05");
+    let counting =
+        [(0, REQUEST_BY_5, 5), (5, REQUEST_BY_3, 3), (3, &handover, 5), (5, RELEASE_BY_5, 0)];
+    for (place, (controller, text, host)) in counting.into_iter().enumerate() {
+        for (tally, expected) in [(MOST - 1, MOST), (MOST, MOST), (0x7FFF_FFFF, 0x8000_0000)] {
+            let (mut before, mut after) = ([1, 2, 3, 4], [1, 2, 3, 4]);
+            (before[place], after[place]) = (tally, expected);
+            assert_eq!(counted(controller, before, text), (Outcome::OK, host, after), "{text}");
+        }
+        let given = counted(controller, [MOST; 4], text);
+        assert_eq!(given, (Outcome::OK, host, [MOST; 4]), "{text}");
+    }
+}
+
+#[test]
+fn tallies_count_without_an_answer() {
+    let silent = |text: &str| text.replacen("02 00 00 00", "FD FF FF FF", 1);
+    let handover = format!("{HANDOVER_BY_3}05");
+    let one = |controller, text: &str| counted(controller, [0; 4], &silent(text)).2;
+    assert_eq!(one(0, REQUEST_BY_5), [1, 0, 0, 0]);
+    assert_eq!(one(5, REQUEST_BY_3), [0, 1, 0, 0]);
+    assert_eq!(one(3, &handover), [0, 0, 1, 0]);
+    assert_eq!(one(5, RELEASE_BY_5), [0, 0, 0, 1]);
+}
+
+/// Refusals, and the messages that leave the controller alone.
+#[test]
+fn other_messages_count_nowhere() {
+    let refused = [
+        (3, REQUEST_BY_5.to_string(), Outcome::N7),
+        (5, REQUEST_BY_5.to_string(), Outcome::N7),
+        (0, "00 C0 06 01 02 00 00 00 01".to_string(), Outcome::N7),
+        (5, RELEASE_BY_3.to_string(), Outcome::N7),
+        (0, RELEASE_BY_3.to_string(), Outcome::N7),
+        (0x103, RELEASE_BY_3.to_string(), Outcome::N7),
+        (5, format!("{HANDOVER_BY_3}05"), Outcome::N7),
+        (3, format!("{HANDOVER_BY_3}06"), Outcome::N8),
+        (3, format!("{HANDOVER_BY_3}00"), Outcome::N8),
+        (3, "20 C1 03 01 02 00 00 00 01 00 00 00 00 00 00 00".to_string(), Outcome::N5),
+        (3, "00 C0 03 01 02 00 00 00 03".to_string(), Outcome::N6),
+    ];
+    let config = "00 C1 03 01 02 00 00 00 01 00 00 00 00 00 00 00 00 00 00 00 00 00 00 00 10";
+    let control = "01 C1 03 01 02 00 00 00 01 00 00 00 00 00 00 00 00";
+    let wait = "01 C4 03 01 02 00 00 00 01 01 01 00 00 13 00 00 00 00 00 00 00 00 00 00 00 00 00 \
+        00 00";
+    let others = [config, control, "00 C4 03 01 02 00 00 00 01", wait];
+    let others = others.map(|text| (3, text.to_string(), Outcome::OK));
+    for (controller, text, outcome) in refused.into_iter().chain(others) {
+        for tallies in [[0; 4], [10, 20, 30, 40], [MOST; 4]] {
+            assert_eq!(counted(controller, tallies, &text), (outcome, controller, tallies));
+        }
+    }
+}
+
+/// The place in a row of the tally that counts a message which gave the processor another
+/// controller word; none where it is the same.
+fn tally_of(message: &[u8], old: u32, new: u32) -> Option<usize> {
+    match (old, new) {
+        _ if old == new => None,
+        (0, _) => Some(4),
+        (_, 0) => Some(7),
+        _ if message.starts_with(&MSG_PROC_REQUEST.to_le_bytes()) => Some(5),
+        _ => Some(6),
+    }
+}
+
+/// Over memories of any content: the change of the controller says which tally counts one more, and
+/// with no change none does.
+#[test]
+fn tallies_follow_the_controller() {
+    let (mut random, goals) = (Random::new(17, 0), goals());
+    for _ in 0..20_000 {
+        let board = any_board(&mut random).board;
+        let access = any_access(&mut random, &board);
+        let before = any_records(&mut random, &board);
+        let setup = Setup { board: &board, access: &access };
+        let scene = Scene { setup, records: &before, status: &[], focus: &[], most_words: 255 };
+        let goal = random.pick(&goals);
+        let Draft { channel, message, status } = draft(&mut random, &scene, goal);
+        let call = Call { channel, message: &message, status: &status.unwrap_or_default() };
+        let mut records = before;
+        handle(setup, &mut records, &call, &mut [0; ANSWER_BYTES]);
+        for (old, new) in before[..256].chunks(8).zip(records[..256].chunks(8)) {
+            let mut expected = old[4..].to_vec();
+            if let Some(place) = tally_of(&message, old[0], new[0]) {
+                expected[place - 4] = if old[place] == MOST { MOST } else { old[place] + 1 };
+            }
+            assert_eq!(new[4..], expected, "{message:x?}");
+        }
     }
 }
