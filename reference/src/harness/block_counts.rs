@@ -7,8 +7,8 @@ use crate::block::BLOCK_FAULTS;
 use crate::harness::block_faults::{name, FaultPairs};
 use crate::harness::block_histories::histories;
 use crate::harness::block_situations::{called, count_called, count_parts, parts, Offered};
+use crate::harness::counted::Counted;
 use crate::harness::hierarchy_situations::{count_hierarchy, hierarchies};
-use crate::harness::tally::Tally;
 use crate::session::LONGEST_BLOCK;
 
 /// How often each was met.
@@ -18,12 +18,12 @@ pub struct BlockCounts {
     pairs: FaultPairs,
     /// the lengths that were judged
     lengths: BTreeSet<usize>,
-    hierarchies: Tally,
-    parts: Tally,
+    hierarchies: Counted,
+    parts: Counted,
     /// what only calls to the static library can have
-    called: Tally,
+    called: Counted,
     /// what only recordings can have
-    pub histories: Tally,
+    pub histories: Counted,
 }
 
 impl Default for BlockCounts {
@@ -60,7 +60,7 @@ impl BlockCounts {
         self.verdicts.iter().sum()
     }
 
-    fn tallies(&self, library: bool) -> [&Tally; 3] {
+    fn counted(&self, library: bool) -> [&Counted; 3] {
         let special = if library { &self.called } else { &self.histories };
         [&self.hierarchies, &self.parts, special]
     }
@@ -73,7 +73,7 @@ impl BlockCounts {
         let lengths = (0..=LONGEST_BLOCK).filter(|length| !self.lengths.contains(length));
         gaps.extend(lengths.map(|length| format!("block of {length} bytes: 0")));
         gaps.extend(self.pairs.gaps());
-        gaps.extend(self.tallies(library).into_iter().flat_map(Tally::gaps));
+        gaps.extend(self.counted(library).into_iter().flat_map(Counted::gaps));
         gaps
     }
 
@@ -84,7 +84,7 @@ impl BlockCounts {
             write!(text, " {} {count}", verdict(place)).unwrap();
         }
         text.push_str(&self.pairs.table());
-        text.extend(self.tallies(library).map(Tally::table));
+        text.extend(self.counted(library).map(Counted::table));
         text
     }
 }
@@ -120,7 +120,7 @@ mod tests {
     fn gaps_are_filled_one_by_one() {
         let mut counts = BlockCounts::default();
         let all = counts.gaps(true).len();
-        let named: usize = counts.tallies(true).iter().map(|tally| tally.gaps().len()).sum();
+        let named: usize = counts.counted(true).iter().map(|counted| counted.gaps().len()).sum();
         assert_eq!(all, 18 + 513 + 17 * 16 / 2 + named);
         let board = Board::first();
         let offered = |block, verdict| Offered { board: &board, abi: [0, 1], block, verdict };

@@ -3,7 +3,7 @@
 use crate::access::ListFault;
 use crate::block::BlockFault;
 use crate::description::BoardFault;
-use crate::harness::tally::Tally;
+use crate::harness::counted::Counted;
 use crate::outcome::Outcome;
 use crate::session::Event;
 use Outcome::{N1, N2, N3, N4, N5, N6, N7, N8, N9, OK, R2, R3};
@@ -26,8 +26,8 @@ pub struct History {
 
 impl History {
     /// Counts what holds of the next field, and follows it.
-    pub fn count(&mut self, tally: &mut Tally, event: &Event) {
-        tally.count(HISTORIES.map(|(_, test)| test(self, event)));
+    pub fn count(&mut self, counted: &mut Counted, event: &Event) {
+        counted.count(HISTORIES.map(|(_, test)| test(self, event)));
         match event {
             Event::List(Ok(())) => self.source = Some(Source::List),
             Event::Block(Ok(())) => self.source = Some(Source::Block),
@@ -95,9 +95,9 @@ const HISTORIES: [(&str, Test); 21] = [
     ("OK under a block's list", |h, e| h.answered(e, OK)),
 ];
 
-/// A tally of what comes before and behind blocks, none met yet.
-pub fn histories() -> Tally {
-    Tally::new(HISTORIES.map(|(name, _)| name))
+/// What comes before and behind blocks, none met yet.
+pub fn histories() -> Counted {
+    Counted::new(HISTORIES.map(|(name, _)| name))
 }
 
 #[cfg(test)]
@@ -106,12 +106,12 @@ mod tests {
 
     /// What holds of the last of these fields and of none before it.
     fn met(events: &[Event]) -> Vec<String> {
-        let (mut history, mut tally) = (History::default(), histories());
+        let (mut history, mut counted) = (History::default(), histories());
         let (last, before) = events.split_last().unwrap();
-        before.iter().for_each(|event| history.count(&mut tally, event));
-        let missing = tally.gaps();
-        history.count(&mut tally, last);
-        missing.into_iter().filter(|gap| !tally.gaps().contains(gap)).collect()
+        before.iter().for_each(|event| history.count(&mut counted, event));
+        let missing = counted.gaps();
+        history.count(&mut counted, last);
+        missing.into_iter().filter(|gap| !counted.gaps().contains(gap)).collect()
     }
 
     #[test]

@@ -8,7 +8,7 @@ use crate::block::{
 };
 use crate::board::{Board, ROWS};
 use crate::bytes::u16_at;
-use crate::harness::tally::Tally;
+use crate::harness::counted::Counted;
 use crate::session::{LONGEST_BLOCK, RECORDED_ABI};
 use BlockFault::{B1, B10, B2, B3, B4, B9};
 
@@ -103,14 +103,14 @@ const PARTS: [(&str, Test); 20] = [
     }),
 ];
 
-/// A tally of a block's parts, none met yet.
-pub fn parts() -> Tally {
-    Tally::new(PARTS.map(|(name, _)| name))
+/// A block's parts, none met yet.
+pub fn parts() -> Counted {
+    Counted::new(PARTS.map(|(name, _)| name))
 }
 
 /// Counts all that holds of one block.
-pub fn count_parts(tally: &mut Tally, offered: &Offered) {
-    tally.count(PARTS.map(|(_, test)| test(offered)));
+pub fn count_parts(counted: &mut Counted, offered: &Offered) {
+    counted.count(PARTS.map(|(_, test)| test(offered)));
 }
 
 const CALLED: [(&str, Test); 6] = [
@@ -128,12 +128,12 @@ const CALLED: [(&str, Test); 6] = [
     }),
 ];
 
-/// A tally of what only calls to the static library can have, none met yet.
-pub fn called() -> Tally {
-    Tally::new(CALLED.map(|(name, _)| name))
+/// What only calls to the static library can have, none met yet.
+pub fn called() -> Counted {
+    Counted::new(CALLED.map(|(name, _)| name))
 }
 
 /// Counts all that holds of one call.
-pub fn count_called(tally: &mut Tally, offered: &Offered) {
-    tally.count(CALLED.map(|(_, test)| test(offered)));
+pub fn count_called(counted: &mut Counted, offered: &Offered) {
+    counted.count(CALLED.map(|(_, test)| test(offered)));
 }

@@ -4,8 +4,8 @@
 use crate::access::{ListFault, ENTRY_BYTES, LIST_HEADER_BYTES};
 use crate::board::{Board, Class, FIRST_HOSTS, FIRST_PROCESSORS, MOST_HOSTS, ROWS};
 use crate::description::{BoardFault, Description, Item, TAG_HOST, TAG_PROCESSOR};
+use crate::harness::counted::Counted;
 use crate::harness::situations::Seen;
-use crate::harness::tally::Tally;
 use crate::manager::{Call, Setup};
 use crate::message::HEADER_BYTES;
 use crate::outcome::{Outcome, Report};
@@ -116,14 +116,14 @@ const OFFERS: [(&str, OfferTest); 28] = [
     ("board refused for a 33rd processor", |o| o.refused(BoardFault::D6, TAG_PROCESSOR)),
 ];
 
-/// A tally of how descriptions come out, none met yet.
-pub fn offers() -> Tally {
-    Tally::new(OFFERS.map(|(name, _)| name))
+/// How descriptions come out, none met yet.
+pub fn offers() -> Counted {
+    Counted::new(OFFERS.map(|(name, _)| name))
 }
 
 /// Counts all that holds of one description.
-pub fn count_offer(tally: &mut Tally, offer: &Offer) {
-    tally.count(OFFERS.map(|(_, test)| test(offer)));
+pub fn count_offer(counted: &mut Counted, offer: &Offer) {
+    counted.count(OFFERS.map(|(_, test)| test(offer)));
 }
 
 /// A list that was offered, under which board and what it came to.
@@ -162,14 +162,14 @@ const LISTS: [(&str, ListTest); 3] = [
     }),
 ];
 
-/// A tally of lists under boards, none met yet.
-pub fn lists() -> Tally {
-    Tally::new(LISTS.map(|(name, _)| name))
+/// Lists under boards, none met yet.
+pub fn lists() -> Counted {
+    Counted::new(LISTS.map(|(name, _)| name))
 }
 
 /// Counts all that holds of one list.
-pub fn count_list(tally: &mut Tally, listed: &Listed) {
-    tally.count(LISTS.map(|(_, test)| test(listed)));
+pub fn count_list(counted: &mut Counted, listed: &Listed) {
+    counted.count(LISTS.map(|(_, test)| test(listed)));
 }
 
 /// A message with its report, under which board and list.
@@ -216,14 +216,14 @@ const REFUSALS: [(&str, MetTest); 4] = [
     }),
 ];
 
-/// A tally of messages refused by the board, none met yet.
-pub fn refusals() -> Tally {
-    Tally::new(REFUSALS.map(|(name, _)| name))
+/// Messages refused by the board, none met yet.
+pub fn refusals() -> Counted {
+    Counted::new(REFUSALS.map(|(name, _)| name))
 }
 
 /// Counts all that holds of one message.
-pub fn count_refusal(tally: &mut Tally, met: &Met) {
-    tally.count(REFUSALS.map(|(_, test)| test(met)));
+pub fn count_refusal(counted: &mut Counted, met: &Met) {
+    counted.count(REFUSALS.map(|(_, test)| test(met)));
 }
 
 impl Seen<'_> {
@@ -265,12 +265,12 @@ const ODDITIES: [(&str, OddTest); 7] = [
     ("home with another home", |s| s.changed_control() && s.board.home_at(s.home()) != s.home()),
 ];
 
-/// A tally of what no description leaves, none met yet.
-pub fn oddities() -> Tally {
-    Tally::new(ODDITIES.map(|(name, _)| name))
+/// What no description leaves, none met yet.
+pub fn oddities() -> Counted {
+    Counted::new(ODDITIES.map(|(name, _)| name))
 }
 
 /// Counts all that holds of one message.
-pub fn count_oddity(tally: &mut Tally, seen: &Seen) {
-    tally.count(ODDITIES.map(|(_, test)| test(seen)));
+pub fn count_oddity(counted: &mut Counted, seen: &Seen) {
+    counted.count(ODDITIES.map(|(_, test)| test(seen)));
 }

@@ -10,11 +10,11 @@ use crate::harness::block_histories::History;
 use crate::harness::block_situations::Offered;
 use crate::harness::board_situations::{self, Listed, Met, Offer};
 use crate::harness::clusters::Clusters;
+use crate::harness::counted::Counted;
 use crate::harness::goals::{goals, Subject, POSSIBLE, SUBJECTS};
 use crate::harness::role_situations::{count_odd_words, count_places, odd_words, places};
 use crate::harness::roles::RoleCounts;
 use crate::harness::situations::{count_situations, situations, Seen, Watch};
-use crate::harness::tally::Tally;
 use crate::harness::wait_situations::{count_waits, waits};
 use crate::message::HEADER_BYTES;
 use crate::outcome::{Outcome, OUTCOMES};
@@ -27,19 +27,19 @@ pub struct Coverage {
     /// the processor bytes that were looked up
     processors: BTreeSet<u8>,
     roles: RoleCounts,
-    situations: Tally,
-    waits: Tally,
-    places: Tally,
+    situations: Counted,
+    waits: Counted,
+    places: Counted,
     /// what only access memories that no list leaves can have
-    odd_words: Tally,
+    odd_words: Counted,
     /// what only boards that no description leaves can have
-    oddities: Tally,
-    refusals: Tally,
+    oddities: Counted,
+    refusals: Counted,
     lists: [u64; LIST_FAULTS.len() + 1],
-    listed: Tally,
+    listed: Counted,
     blocks: BlockCounts,
     boards: [u64; BOARD_FAULTS.len() + 1],
-    offers: Tally,
+    offers: Counted,
     pub bad_records: u64,
     pub cut_records: u64,
 }
@@ -162,13 +162,13 @@ impl Coverage {
         gaps.extend(self.verdict_gaps());
         gaps.extend(self.blocks.gaps(library));
         gaps.extend(self.roles.gaps(library));
-        gaps.extend(self.tallies(library).into_iter().flat_map(Tally::gaps));
+        gaps.extend(self.counted(library).into_iter().flat_map(Counted::gaps));
         gaps
     }
 
-    /// The tallies of what is expected.
-    fn tallies(&self, library: bool) -> Vec<&Tally> {
-        let mut tallies = vec![
+    /// The named things that are expected.
+    fn counted(&self, library: bool) -> Vec<&Counted> {
+        let mut counted = vec![
             &self.situations,
             &self.waits,
             &self.places,
@@ -177,9 +177,9 @@ impl Coverage {
             &self.offers,
         ];
         if library {
-            tallies.extend([&self.odd_words, &self.oddities]);
+            counted.extend([&self.odd_words, &self.oddities]);
         }
-        tallies
+        counted
     }
 
     fn message_gaps(&self, with_r1: bool) -> Vec<String> {
@@ -246,7 +246,7 @@ impl Coverage {
         }
         text.push_str(&self.blocks.table(library));
         text.push_str(&self.roles.table(library));
-        text.extend(self.tallies(library).into_iter().map(Tally::table));
+        text.extend(self.counted(library).into_iter().map(Counted::table));
         text
     }
 }
@@ -299,7 +299,7 @@ mod tests {
         let (mut coverage, board, access) = (Coverage::default(), Board::first(), [0; 129]);
         let setup = Setup { board: &board, access: &access };
         let all = coverage.gaps(true).len();
-        let named: usize = coverage.tallies(true).iter().map(|tally| tally.gaps().len()).sum();
+        let named: usize = coverage.counted(true).iter().map(|counted| counted.gaps().len()).sum();
         let (roles, blocks) = (coverage.roles.gaps(true).len(), coverage.blocks.gaps(true).len());
         assert_eq!(all, goals().len() + 256 + 9 + 8 + roles + blocks + named);
         let request = [0, 0xC0, 3, 0, 2, 0, 0, 0, 1];

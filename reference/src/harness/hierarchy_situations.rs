@@ -6,7 +6,7 @@ use crate::block::{
 };
 use crate::board::Board;
 use crate::harness::block_situations::Offered;
-use crate::harness::tally::Tally;
+use crate::harness::counted::Counted;
 use BlockFault::{B5, B6, B7, B8};
 
 /// Where following supervisors leads.
@@ -219,14 +219,14 @@ const HIERARCHIES: [(&str, Test); 30] = [
     }),
 ];
 
-/// A tally of hierarchies, none met yet.
-pub fn hierarchies() -> Tally {
-    Tally::new(HIERARCHIES.map(|(name, _)| name))
+/// Hierarchies, none met yet.
+pub fn hierarchies() -> Counted {
+    Counted::new(HIERARCHIES.map(|(name, _)| name))
 }
 
 /// Counts all that holds of one hierarchy.
-pub fn count_hierarchy(tally: &mut Tally, offered: &Offered) {
-    tally.count(HIERARCHIES.map(|(_, test)| test(offered)));
+pub fn count_hierarchy(counted: &mut Counted, offered: &Offered) {
+    counted.count(HIERARCHIES.map(|(_, test)| test(offered)));
 }
 
 #[cfg(test)]

@@ -3,8 +3,8 @@
 
 use crate::access::Role;
 use crate::board::NO_HOST;
+use crate::harness::counted::Counted;
 use crate::harness::situations::Seen;
-use crate::harness::tally::Tally;
 use crate::outcome::Outcome;
 
 /// Where an entry has its master and its secondaries.
@@ -112,14 +112,14 @@ const PLACES: [(&str, Test); 20] = [
     }),
 ];
 
-/// A tally of these situations, none met yet.
-pub fn places() -> Tally {
-    Tally::new(PLACES.map(|(name, _)| name))
+/// These situations, none met yet.
+pub fn places() -> Counted {
+    Counted::new(PLACES.map(|(name, _)| name))
 }
 
 /// Counts all that holds of one message.
-pub fn count_places(tally: &mut Tally, seen: &Seen) {
-    tally.count(PLACES.map(|(_, test)| test(seen)));
+pub fn count_places(counted: &mut Counted, seen: &Seen) {
+    counted.count(PLACES.map(|(_, test)| test(seen)));
 }
 
 /// What no list leaves.
@@ -136,12 +136,12 @@ const ODD_WORDS: [(&str, Test); 10] = [
     ("open processor with secondaries", |s| s.named_without_master()),
 ];
 
-/// A tally of words that no list leaves, none met yet.
-pub fn odd_words() -> Tally {
-    Tally::new(ODD_WORDS.map(|(name, _)| name))
+/// Words that no list leaves, none met yet.
+pub fn odd_words() -> Counted {
+    Counted::new(ODD_WORDS.map(|(name, _)| name))
 }
 
 /// Counts all that holds of one message.
-pub fn count_odd_words(tally: &mut Tally, seen: &Seen) {
-    tally.count(ODD_WORDS.map(|(_, test)| test(seen)));
+pub fn count_odd_words(counted: &mut Counted, seen: &Seen) {
+    counted.count(ODD_WORDS.map(|(_, test)| test(seen)));
 }

@@ -3,7 +3,7 @@
 use crate::access::{row_words, Role};
 use crate::board::{Board, Class, ALONE, MOST_HOSTS, NO_HOST, ROWS};
 use crate::harness::clusters::Clusters;
-use crate::harness::tally::Tally;
+use crate::harness::counted::Counted;
 use crate::manager::{Call, Setup, GEN_IGN_BOOTVECTOR};
 use crate::message::{read_order, Order, ANSWER_BYTES};
 use crate::outcome::{Outcome, Report};
@@ -266,12 +266,12 @@ const SITUATIONS: [(&str, Test); 34] = [
     ("host 255", |s| s.ok() && s.sender == 255),
 ];
 
-/// A tally of these situations, none met yet.
-pub fn situations() -> Tally {
-    Tally::new(SITUATIONS.map(|(name, _)| name))
+/// These situations, none met yet.
+pub fn situations() -> Counted {
+    Counted::new(SITUATIONS.map(|(name, _)| name))
 }
 
 /// Counts all that holds of one message.
-pub fn count_situations(tally: &mut Tally, seen: &Seen) {
-    tally.count(SITUATIONS.map(|(_, test)| test(seen)));
+pub fn count_situations(counted: &mut Counted, seen: &Seen) {
+    counted.count(SITUATIONS.map(|(_, test)| test(seen)));
 }

@@ -1,8 +1,8 @@
 //! Situations of waits: where a run ends or breaks, how many words are lent, and matches that are
 //! equal to the waits or above them.
 
+use crate::harness::counted::Counted;
 use crate::harness::situations::Seen;
-use crate::harness::tally::Tally;
 use crate::message::{Order, HEADER_BYTES};
 use crate::outcome::Outcome;
 use crate::wait::Wait;
@@ -132,14 +132,14 @@ const WAITS: [(&str, Test); 28] = [
     ("matches above waits, sender without the right", |s| s.above(N7, |_| true)),
 ];
 
-/// A tally of these situations, none met yet.
-pub fn waits() -> Tally {
-    Tally::new(WAITS.map(|(name, _)| name))
+/// These situations, none met yet.
+pub fn waits() -> Counted {
+    Counted::new(WAITS.map(|(name, _)| name))
 }
 
 /// Counts all that holds of one message.
-pub fn count_waits(tally: &mut Tally, seen: &Seen) {
-    tally.count(WAITS.map(|(_, test)| test(seen)));
+pub fn count_waits(counted: &mut Counted, seen: &Seen) {
+    counted.count(WAITS.map(|(_, test)| test(seen)));
 }
 
 #[cfg(test)]

@@ -1,12 +1,12 @@
 //! Counts named things that a run has to meet.
 
 /// How often each was met, by name.
-pub struct Tally(Vec<(&'static str, u64)>);
+pub struct Counted(Vec<(&'static str, u64)>);
 
-impl Tally {
+impl Counted {
     /// Nothing met yet.
-    pub fn new(names: impl IntoIterator<Item = &'static str>) -> Tally {
-        Tally(names.into_iter().map(|name| (name, 0)).collect())
+    pub fn new(names: impl IntoIterator<Item = &'static str>) -> Counted {
+        Counted(names.into_iter().map(|name| (name, 0)).collect())
     }
 
     /// Counts those that hold now, told in the order of the names.
