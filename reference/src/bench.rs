@@ -4,15 +4,18 @@
 use crate::access::Role;
 use crate::block::Abi;
 use crate::message::ANSWER_BYTES;
+use crate::record::Tallies;
 
 mod blocks;
 mod boards;
 mod cluster;
 mod roles;
+mod tallies;
 mod waits;
 
-/// One thing that happens in a case. The line is what has to be printed, and the role, which no line
-/// tells, what the message before it has to report.
+/// One thing that happens in a case. The line is what has to be printed. No line tells the role that
+/// the message before it has to report, nor the tallies that a processor has to have. Stored tallies
+/// are put into the record memory, as no call does it.
 #[derive(Clone, Debug)]
 pub enum Step {
     Board { description: Vec<u8>, line: &'static str },
@@ -21,6 +24,8 @@ pub enum Step {
     Status { words: Vec<u32> },
     Message { channel: u8, message: Vec<u8>, room: usize, line: &'static str },
     Told { role: Role },
+    Tallies { processor: u8, tallies: Tallies },
+    Stored { processor: u8, tallies: Tallies },
 }
 
 /// A named run of steps from the start.
@@ -74,9 +79,11 @@ pub fn cases() -> Vec<Case> {
     cases.extend(cluster::cases());
     cases.extend(roles::cases());
     cases.extend(waits::cases());
+    cases.extend(tallies::cases());
     cases.push(worked_session());
     let described: Vec<_> = cases.iter().map(boards::described).collect();
-    let listed = [cases, described, boards::cases(), vec![roles::full_board()]].concat();
+    let full_boards = vec![roles::full_board(), tallies::full_board()];
+    let listed = [cases, described, boards::cases(), full_boards].concat();
     let in_blocks = listed.iter().map(blocks::in_block).collect();
     [listed, in_blocks, blocks::cases()].concat()
 }

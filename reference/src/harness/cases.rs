@@ -8,7 +8,7 @@ use crate::description::take_board;
 use crate::harness::recordings::{field, message_field, status_field};
 use crate::manager::{handle, Call, Setup};
 use crate::message::ANSWER_BYTES;
-use crate::record::{RecordMemory, RECORD_WORDS};
+use crate::record::{Record, RecordMemory, Tallies, RECORD_WORDS};
 use crate::session::{write_line, Event, RECORDED_ABI, TAG_BLOCK, TAG_BOARD, TAG_LIST};
 
 /// What a manager remembers: at the start the first board, and zeros.
@@ -16,6 +16,28 @@ pub struct Memory {
     pub board: Board,
     pub access: AccessMemory,
     pub records: RecordMemory,
+}
+
+impl Memory {
+    /// What is remembered before any call: this board, no list, and records of zeros.
+    pub fn new(board: Board) -> Memory {
+        Memory { board, access: [0; ACCESS_WORDS], records: [0; RECORD_WORDS] }
+    }
+
+    /// The row of a processor, which is on the board.
+    fn row(&self, processor: u8) -> usize {
+        self.board.row_of(processor).expect("a case names processors of its board")
+    }
+
+    fn tallies(&self, processor: u8) -> Tallies {
+        Record::load(&self.board, &self.records, self.row(processor)).tallies
+    }
+
+    fn store_tallies(&mut self, processor: u8, tallies: Tallies) {
+        let row = self.row(processor);
+        let record = Record::load(&self.board, &self.records, row);
+        Record { tallies, ..record }.store(&self.board, &mut self.records, row);
+    }
 }
 
 /// The calls, whoever carries them out, with the lines that tell of them.
@@ -71,34 +93,12 @@ fn line_of(event: &Event) -> String {
     String::from_utf8_lossy(&line).trim_end().to_string()
 }
 
-/// Runs a case from the start; says which step gave another line or role than it has to.
+/// Runs a case from the start; says which step gave another line, role or tallies than it has to.
 pub fn run_case(calls: &impl Calls, case: &Case) -> Result<(), String> {
-    let board = calls.start();
-    let mut memory = Memory { board, access: [0; ACCESS_WORDS], records: [0; RECORD_WORDS] };
-    let mut status: &[u32] = &[];
-    let mut told = Role::None.number();
+    let memory = Memory::new(calls.start());
+    let mut run = Run { memory, status: &[], told: Role::None.number() };
     for (number, step) in case.steps.iter().enumerate() {
-        let (given, expected) = match step {
-            Step::Board { description, line } => {
-                (calls.board(&mut memory, description), line.to_string())
-            }
-            Step::List { list, line } => (calls.list(&mut memory, list), line.to_string()),
-            Step::Block { abi, block, line } => {
-                (calls.block(&mut memory, *abi, block), line.to_string())
-            }
-            Step::Status { words } => {
-                status = words;
-                continue;
-            }
-            Step::Message { channel, message, room, line } => {
-                let call = Call { channel: *channel, message, status };
-                let mut answer = vec![0; *room];
-                let (given, role) = calls.message(&mut memory, &call, &mut answer);
-                told = role;
-                (given, line.to_string())
-            }
-            Step::Told { role } => (role_line(told), role_line(role.number())),
-        };
+        let (given, expected) = run.take(calls, step);
         if given != expected {
             let step = number + 1;
             return Err(format!("{}, step {step}: expected {expected}, given {given}", case.name));
@@ -107,12 +107,59 @@ pub fn run_case(calls: &impl Calls, case: &Case) -> Result<(), String> {
     Ok(())
 }
 
+/// A case that is being run.
+struct Run<'a> {
+    memory: Memory,
+    status: &'a [u32],
+    /// the number of the role that the last message reported
+    told: u32,
+}
+
+impl<'a> Run<'a> {
+    /// Takes a step; gives what came of it and what has to. That is nothing for steps that prepare.
+    fn take(&mut self, calls: &impl Calls, step: &'a Step) -> (String, String) {
+        let memory = &mut self.memory;
+        match step {
+            Step::Board { description, line } => {
+                (calls.board(memory, description), line.to_string())
+            }
+            Step::List { list, line } => (calls.list(memory, list), line.to_string()),
+            Step::Block { abi, block, line } => {
+                (calls.block(memory, *abi, block), line.to_string())
+            }
+            Step::Status { words } => {
+                self.status = words;
+                Default::default()
+            }
+            Step::Message { channel, message, room, line } => {
+                let call = Call { channel: *channel, message, status: self.status };
+                let (given, role) = calls.message(memory, &call, &mut vec![0; *room]);
+                self.told = role;
+                (given, line.to_string())
+            }
+            Step::Told { role } => (role_line(self.told), role_line(role.number())),
+            Step::Tallies { processor, tallies } => {
+                (tallies_line(memory.tallies(*processor)), tallies_line(*tallies))
+            }
+            Step::Stored { processor, tallies } => {
+                memory.store_tallies(*processor, *tallies);
+                Default::default()
+            }
+        }
+    }
+}
+
 fn role_line(number: u32) -> String {
     format!("role {number}")
 }
 
+fn tallies_line(tallies: Tallies) -> String {
+    format!("{tallies:?}")
+}
+
 /// The case as a recording and the lines that it has to give. Steps with another answer buffer or
-/// other ABI bytes are left out, as a recording cannot say them, and roles, which it does not tell.
+/// other ABI bytes are left out, as a recording cannot say them, and roles and tallies, which it
+/// does not tell.
 pub fn recording_of(case: &Case) -> (Vec<u8>, String) {
     let mut recording = Vec::new();
     let mut lines = String::new();
@@ -124,7 +171,7 @@ pub fn recording_of(case: &Case) -> (Vec<u8>, String) {
             Step::Block { block, line, .. } => (field(TAG_BLOCK, block), *line),
             Step::Status { words } => (status_field(words), ""),
             Step::Message { room, .. } if *room != ANSWER_BYTES => continue,
-            Step::Told { .. } => continue,
+            Step::Told { .. } | Step::Tallies { .. } | Step::Stored { .. } => continue,
             Step::Message { channel, message, line, .. } => {
                 (message_field(*channel, message), *line)
             }
@@ -148,6 +195,22 @@ mod tests {
     fn model_gives_the_fixed_lines() {
         for case in cases() {
             assert_eq!(run_case(&Model, &case), Ok(()));
+        }
+    }
+
+    /// One after the other, each step with tallies expects one release more than there is.
+    #[test]
+    fn other_tallies_are_told() {
+        for case in cases() {
+            let is_tallies = |&at: &usize| matches!(case.steps[at], Step::Tallies { .. });
+            for at in (0..case.steps.len()).filter(is_tallies) {
+                let mut wrong = case.clone();
+                if let Step::Tallies { tallies, .. } = &mut wrong.steps[at] {
+                    tallies.releases = tallies.releases.wrapping_add(1);
+                }
+                let told = run_case(&Model, &wrong).unwrap_err();
+                assert!(told.starts_with(&format!("{}, step {}:", case.name, at + 1)), "{told}");
+            }
         }
     }
 
