@@ -13,9 +13,9 @@ mod roles;
 mod tallies;
 mod waits;
 
-/// One thing that happens in a case. The line is what has to be printed. No line tells the role that
-/// the message before it has to report, nor the tallies that a processor has to have. Stored tallies
-/// are put into the record memory, as no call does it.
+/// One thing that happens in a case. The line is what has to be printed. No line tells the role
+/// that the message before it has to report, nor the tallies that a processor has to have. Stored
+/// tallies are put into the record memory, as no call does it.
 #[derive(Clone, Debug)]
 pub enum Step {
     Board { description: Vec<u8>, line: &'static str },

@@ -1,5 +1,5 @@
-//! The fixed cases of tallies: which messages count, and in which of the four. No line and no answer
-//! tells them.
+//! The fixed cases of tallies: which messages count, and in which of the four. No line and no
+//! answer tells them.
 
 use super::boards::{board, both, hosts, named, processors};
 use super::{

@@ -15,6 +15,7 @@ use crate::harness::goals::{goals, Subject, POSSIBLE, SUBJECTS};
 use crate::harness::role_situations::{count_odd_words, count_places, odd_words, places};
 use crate::harness::roles::RoleCounts;
 use crate::harness::situations::{count_situations, situations, Seen, Watch};
+use crate::harness::tally_situations::{count_limits, count_tallies, limits, tallies};
 use crate::harness::wait_situations::{count_waits, waits};
 use crate::message::HEADER_BYTES;
 use crate::outcome::{Outcome, OUTCOMES};
@@ -30,6 +31,9 @@ pub struct Coverage {
     situations: Counted,
     waits: Counted,
     places: Counted,
+    tallies: Counted,
+    /// what only calls to the static library can have of tallies
+    limits: Counted,
     /// what only access memories that no list leaves can have
     odd_words: Counted,
     /// what only boards that no description leaves can have
@@ -53,6 +57,8 @@ impl Default for Coverage {
             situations: situations(),
             waits: waits(),
             places: places(),
+            tallies: tallies(),
+            limits: limits(),
             odd_words: odd_words(),
             oddities: board_situations::oddities(),
             refusals: board_situations::refusals(),
@@ -121,6 +127,8 @@ impl Coverage {
             count_situations(&mut self.situations, seen);
             count_waits(&mut self.waits, seen);
             count_places(&mut self.places, seen);
+            count_tallies(&mut self.tallies, seen);
+            count_limits(&mut self.limits, seen);
             count_odd_words(&mut self.odd_words, seen);
             board_situations::count_oddity(&mut self.oddities, seen);
         }
@@ -154,8 +162,8 @@ impl Coverage {
     }
 
     /// What should have been reached and was not, or was reached and should not have been. R1 and
-    /// memories that no list or description leaves are expected only of calls to the static
-    /// library.
+    /// memories that no list, description or recording leaves are expected only of calls to the
+    /// static library.
     pub fn gaps(&self, library: bool) -> Vec<String> {
         let mut gaps = self.message_gaps(library);
         gaps.extend(self.processor_gaps());
@@ -172,12 +180,13 @@ impl Coverage {
             &self.situations,
             &self.waits,
             &self.places,
+            &self.tallies,
             &self.refusals,
             &self.listed,
             &self.offers,
         ];
         if library {
-            counted.extend([&self.odd_words, &self.oddities]);
+            counted.extend([&self.limits, &self.odd_words, &self.oddities]);
         }
         counted
     }

@@ -31,6 +31,7 @@ pub mod recordings;
 pub mod role_situations;
 pub mod roles;
 pub mod situations;
+pub mod tally_situations;
 pub mod timing;
 pub mod wait_situations;
 pub mod waits;

@@ -87,9 +87,9 @@ pub struct Seen<'a> {
     pub(super) order: Order,
     /// the master and the secondaries of the row
     pub(super) places: &'a [u16],
-    before: Record,
+    pub(super) before: Record,
     /// the other processors that have the control word
-    sharers: Vec<Record>,
+    pub(super) sharers: Vec<Record>,
     /// the processor through which the control word was changed before
     changed_through: Option<u8>,
     /// another R5 processor of the cluster, through which its own control word was changed
@@ -108,7 +108,7 @@ impl Seen<'_> {
         self.order == Order::Request && self.report.outcome == outcome
     }
 
-    fn requested(&self) -> bool {
+    pub(super) fn requested(&self) -> bool {
         self.was_request(Outcome::OK)
     }
 
@@ -131,11 +131,21 @@ impl Seen<'_> {
         self.requested() && self.of_another_host(&self.before)
     }
 
-    fn handed(&self, to_oneself: bool) -> bool {
+    /// Whether this is a request of a recovery master for what it holds.
+    pub(super) fn kept(&self) -> bool {
+        self.requested() && self.before.is_controlled_by(self.sender)
+    }
+
+    /// Whether this is a handover that was carried out, to the sender itself or to another host.
+    pub(super) fn handed(&self, to_oneself: bool) -> bool {
         let Order::Handover { host } = self.order else {
             return false;
         };
         self.ok() && (host == self.sender) == to_oneself
+    }
+
+    pub(super) fn released(&self) -> bool {
+        self.ok() && self.order == Order::Release
     }
 
     fn configured(&self, with_vector: bool) -> bool {
@@ -214,9 +224,9 @@ type Test = fn(&Seen) -> bool;
 const SITUATIONS: [(&str, Test); 34] = [
     ("gained while free", |s| s.requested() && s.was_free()),
     ("gained without an entry", |s| s.requested() && !s.has_entry()),
-    ("kept by the recovery master", |s| s.requested() && s.before.is_controlled_by(s.sender)),
+    ("kept by the recovery master", |s| s.kept()),
     ("taken by the recovery master", |s| s.taken()),
-    ("released", |s| s.ok() && s.order == Order::Release),
+    ("released", |s| s.released()),
     ("handed to another host", |s| s.handed(false)),
     ("handed to oneself", |s| s.handed(true)),
     ("vector stored", |s| s.configured(true)),
