@@ -12,6 +12,7 @@ use pomrozek_reference::harness::edges::edge_recordings;
 use pomrozek_reference::harness::library::{
     compare_blocks, compare_boards, compare_lists, compare_messages, compare_starts, StaticLibrary,
 };
+use pomrozek_reference::harness::long_sessions::compare_sessions;
 use pomrozek_reference::harness::program::{first_difference, keep, run};
 use pomrozek_reference::harness::recordings::recording;
 
@@ -23,6 +24,7 @@ const LIBRARY_LISTS: u64 = 40_000;
 const LIBRARY_BLOCKS: u64 = 40_000;
 const LIBRARY_BOARDS: u64 = 40_000;
 const LIBRARY_STARTS: u64 = 1_000;
+const LIBRARY_SESSIONS: u64 = 120;
 
 /// Bytes fed to the program at once: mostly all of them, sometimes so few that reads come short.
 const PIECES: [usize; 5] = [usize::MAX, usize::MAX, usize::MAX, 1000, 7];
@@ -159,6 +161,7 @@ fn check_library(seed: u64) -> Result<Coverage, String> {
     compare_messages(seed, LIBRARY_MESSAGES, &mut coverage)?;
     compare_lists(seed, LIBRARY_LISTS, &mut coverage)?;
     compare_blocks(seed, LIBRARY_BLOCKS, &mut coverage)?;
+    compare_sessions(&StaticLibrary, seed, LIBRARY_SESSIONS, &mut coverage)?;
     println!("library calls, not asked/asked by outcome:\n{}", coverage.table(true));
     Ok(coverage)
 }

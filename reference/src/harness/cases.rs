@@ -1,5 +1,7 @@
 //! Runs the fixed cases: over calls in process, and as recordings.
 
+use std::fmt::Debug;
+
 use crate::access::{accept_list, AccessMemory, Role, ACCESS_WORDS};
 use crate::bench::{Case, Step};
 use crate::block::{accept_block, Abi};
@@ -8,10 +10,12 @@ use crate::description::take_board;
 use crate::harness::recordings::{field, message_field, status_field};
 use crate::manager::{handle, Call, Setup};
 use crate::message::ANSWER_BYTES;
+use crate::outcome::Report;
 use crate::record::{Record, RecordMemory, Tallies, RECORD_WORDS};
 use crate::session::{write_line, Event, RECORDED_ABI, TAG_BLOCK, TAG_BOARD, TAG_LIST};
 
 /// What a manager remembers: at the start the first board, and zeros.
+#[derive(Clone, Debug, PartialEq, Eq)]
 pub struct Memory {
     pub board: Board,
     pub access: AccessMemory,
@@ -81,13 +85,19 @@ impl Calls for Model {
     fn message(&self, memory: &mut Memory, call: &Call, answer: &mut [u8]) -> (String, u32) {
         let setup = Setup { board: &memory.board, access: &memory.access };
         let report = handle(setup, &mut memory.records, call, answer);
-        let mut bytes = [0; ANSWER_BYTES];
-        bytes[..report.written].copy_from_slice(&answer[..report.written]);
-        (line_of(&Event::Message(report, bytes)), report.role.number())
+        (message_line(report, answer), report.role.number())
     }
 }
 
-fn line_of(event: &Event) -> String {
+/// The line of a message with this report and this answer buffer.
+pub fn message_line(report: Report, answer: &[u8]) -> String {
+    let mut bytes = [0; ANSWER_BYTES];
+    bytes[..report.written].copy_from_slice(&answer[..report.written]);
+    line_of(&Event::Message(report, bytes))
+}
+
+/// The line of an event, which has one.
+pub fn line_of(event: &Event) -> String {
     let mut line = Vec::new();
     write_line(&mut line, event).expect("a vector takes all bytes");
     String::from_utf8_lossy(&line).trim_end().to_string()
@@ -183,6 +193,14 @@ pub fn recording_of(case: &Case) -> (Vec<u8>, String) {
         }
     }
     (recording, lines)
+}
+
+/// Says what differs, and how, if the two are not the same.
+pub fn same<T: PartialEq + Debug>(what: &str, expected: &T, given: &T) -> Result<(), String> {
+    if expected == given {
+        return Ok(());
+    }
+    Err(format!("{what} differs\n expected {expected:x?}\n given    {given:x?}"))
 }
 
 #[cfg(test)]

@@ -14,6 +14,7 @@ use crate::harness::counted::Counted;
 use crate::harness::goals::{goals, Subject, POSSIBLE, SUBJECTS};
 use crate::harness::role_situations::{count_odd_words, count_places, odd_words, places};
 use crate::harness::roles::RoleCounts;
+use crate::harness::session_situations::{self, LongSession};
 use crate::harness::situations::{count_situations, situations, Seen, Watch};
 use crate::harness::tally_situations::{count_limits, count_tallies, limits, tallies};
 use crate::harness::wait_situations::{count_waits, waits};
@@ -34,6 +35,8 @@ pub struct Coverage {
     tallies: Counted,
     /// what only calls to the static library can have of tallies
     limits: Counted,
+    /// long runs of these calls
+    sessions: Counted,
     /// what only access memories that no list leaves can have
     odd_words: Counted,
     /// what only boards that no description leaves can have
@@ -59,6 +62,7 @@ impl Default for Coverage {
             places: places(),
             tallies: tallies(),
             limits: limits(),
+            sessions: session_situations::sessions(),
             odd_words: odd_words(),
             oddities: board_situations::oddities(),
             refusals: board_situations::refusals(),
@@ -151,6 +155,11 @@ impl Coverage {
         board_situations::count_offer(&mut self.offers, &Offer::new(description, verdict));
     }
 
+    /// Counts one long session, whose calls are counted besides.
+    pub fn count_session(&mut self, session: &LongSession) {
+        session_situations::count_session(&mut self.sessions, session);
+    }
+
     /// All messages counted.
     pub fn message_total(&self) -> u64 {
         self.messages.iter().flatten().flatten().sum()
@@ -161,9 +170,9 @@ impl Coverage {
         self.lists.iter().chain(&self.boards).sum::<u64>() + self.blocks.total()
     }
 
-    /// What should have been reached and was not, or was reached and should not have been. R1 and
-    /// memories that no list, description or recording leaves are expected only of calls to the
-    /// static library.
+    /// What should have been reached and was not, or was reached and should not have been. R1, long
+    /// sessions and memories that no list, description or recording leaves are expected only of
+    /// calls to the static library.
     pub fn gaps(&self, library: bool) -> Vec<String> {
         let mut gaps = self.message_gaps(library);
         gaps.extend(self.processor_gaps());
@@ -186,7 +195,7 @@ impl Coverage {
             &self.offers,
         ];
         if library {
-            counted.extend([&self.limits, &self.odd_words, &self.oddities]);
+            counted.extend([&self.limits, &self.sessions, &self.odd_words, &self.oddities]);
         }
         counted
     }

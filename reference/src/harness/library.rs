@@ -1,8 +1,6 @@
 //! Compares the static library with the model on what a recording cannot say: answer buffers of any
 //! length and content, and memories of any content.
 
-use std::fmt::Debug;
-
 use crate::access::{accept_list, has_list, AccessMemory, ListFault, LIST_FAULTS};
 use crate::block::{accept_block, Abi, BlockFault, HIERARCHY_AT, LIST_AT};
 use crate::board::{Board, BOARD_BYTES};
@@ -12,7 +10,7 @@ use crate::harness::block_situations::Offered;
 use crate::harness::blocks::{any_block_call, BlockCall};
 use crate::harness::board_edges::edge_descriptions;
 use crate::harness::board_situations::{Listed, Met};
-use crate::harness::cases::{Calls, Memory};
+use crate::harness::cases::{same, Calls, Memory};
 use crate::harness::coverage::Coverage;
 use crate::harness::descriptions::{faulty_description, good_fields};
 use crate::harness::drafts::{any_focus, draft, Scene, LONGEST_RECORDED};
@@ -405,13 +403,6 @@ fn raw(report: &Report) -> RawReport {
         written: report.written as u32,
         role: report.role.number(),
     }
-}
-
-fn same<T: PartialEq + Debug>(what: &str, expected: &T, given: &T) -> Result<(), String> {
-    if expected == given {
-        return Ok(());
-    }
-    Err(format!("{what} differs\n expected {expected:x?}\n given    {given:x?}"))
 }
 
 fn hex(bytes: &[u8]) -> String {
