@@ -11,6 +11,10 @@
  *     OK request of 1 by host 3: recovery master
  *     N7 request of 1 by host 5: secondary 0
  *
+ * and last the tallies of processor 1, which no message asks for:
+ *
+ *     tallies of 1: grants 1, overrides 0, handovers 0, releases 1
+ *
  * With the argument `largest` it first describes the largest board, 64 hosts and 32 processors, and prints
  * `board OK` before these lines: the session is the same there. With the argument `block` it offers the
  * list in a block and prints `block OK` for its first line.
@@ -83,6 +87,20 @@ static void log_request(uint8_t channel, const uint8_t *message, uint32_t outcom
         return;
     fprintf(stderr, "%s request of %u by host %u: %s\n", outcome == POMROZEK_OK ? "OK" : "N7",
             (unsigned)message[8], (unsigned)channel, role_names[role]);
+}
+
+/* Logs the four tallies of a processor, which stand in its row of the record memory. */
+static void log_tallies(uint8_t processor)
+{
+    const uint8_t row = board_memory[POMROZEK_BOARD_PLACES + processor];
+    const uint32_t *words;
+
+    if (row >= POMROZEK_ROWS) /* not on the board */
+        return;
+    words = record_memory + POMROZEK_ROW_WORDS * row;
+    fprintf(stderr, "tallies of %u: grants %u, overrides %u, handovers %u, releases %u\n",
+            (unsigned)processor, (unsigned)words[POMROZEK_GRANTS], (unsigned)words[POMROZEK_OVERRIDES],
+            (unsigned)words[POMROZEK_HANDOVERS], (unsigned)words[POMROZEK_RELEASES]);
 }
 
 /* Prints the answer's bytes in hexadecimal, or a dash where none were written. */
@@ -192,5 +210,6 @@ int main(int argc, char **argv)
     deliver(3, request_by_3, sizeof request_by_3); /* free and permitted: granted */
     deliver(5, request_by_5, sizeof request_by_5); /* held by 3, and 5 is no recovery master: N7 */
     deliver(3, release_by_3, sizeof release_by_3); /* carried out; flag bit 1 is clear: no answer */
+    log_tallies(1);
     return 0;
 }

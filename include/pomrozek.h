@@ -57,13 +57,30 @@ extern "C" {
 #define POMROZEK_ACCESS_WORDS 129
 
 /*
- * The record memory, in words of 32 bits. Four words for each row, from word 4 * row on: controller
- * (0: none), boot vector low, boot vector high, config word. Then one control word for each home:
- * that of row r is word 128 + the home of r. The processors of an ARMv8 cluster have one home, and so
- * one control word.
+ * The record memory, in words of 32 bits. Eight words for each row, from word 8 * row on: controller
+ * (0: none), boot vector low, boot vector high, config word, and the four tallies, by enum
+ * pomrozek_tally. Then one control word for each home: that of row r is word 256 + the home of r. The
+ * processors of an ARMv8 cluster have one home, and so one control word; their tallies are each one's own.
  */
-#define POMROZEK_RECORD_WORDS 160
-#define POMROZEK_CONTROLS 128
+#define POMROZEK_RECORD_WORDS 288
+#define POMROZEK_ROW_WORDS 8  /* the words of row r are from word 8 * r on */
+#define POMROZEK_CONTROLS 256 /* the control word of home h is word 256 + h */
+
+/*
+ * The tallies of a processor, by their place in its row: how often its controller was changed since the
+ * list or block was accepted, and how. A message counts if its outcome is OK, answered or not, and if it
+ * left another controller than before; so a recovery master that requests what it holds counts nowhere, and
+ * neither does a handover to oneself. Each tally stays at POMROZEK_TALLY_CAP once there. No answer and no
+ * report holds them. While neither grants nor releases has come to the cap, grants minus releases is 1 if
+ * the processor is held and 0 if it is free.
+ */
+enum pomrozek_tally {
+    POMROZEK_GRANTS = 4,    /* requests granted while it was free */
+    POMROZEK_OVERRIDES = 5, /* requests of its recovery master that took it from another host */
+    POMROZEK_HANDOVERS = 6, /* handovers to another host */
+    POMROZEK_RELEASES = 7   /* releases */
+};
+#define POMROZEK_TALLY_CAP 4294967295u
 
 /* The report of a message call, by enum pomrozek_report. */
 #define POMROZEK_REPORT_WORDS 4
