@@ -26,13 +26,13 @@ use Rattle.records.specs.Memory.{ownBy, wordsOf, ownAt, controlPlace, co
 -- ---- several words stored in a row
 
 -- words at other places stay
-pub sets-other : (vs l : List ℕ) (i k : ℕ) → (k < i) ⊎ (i + length vs ≤ k) → getD (sets l i vs) k 0 ≡ getD l k 0
+sets-other : (vs l : List ℕ) (i k : ℕ) → (k < i) ⊎ (i + length vs ≤ k) → getD (sets l i vs) k 0 ≡ getD l k 0
 sets-other [] l i k out = refl
 sets-other (v ∷ vs) l i k out =
     sets-other vs (set l i v) (suc i) k (⊎-elim (λ h. inl (omega arith)) (λ h. inr (omega arith)) out)
     ∙ getD-set-other l i k v 0 (⊎-elim (λ h e. omega arith) (λ h e. omega arith) out)
 
-pub sets-at : (vs l : List ℕ) (i j : ℕ) → i + length vs ≤ length l → j < length vs → getD (sets l i vs) (i + j) 0 ≡ getD vs j 0
+sets-at : (vs l : List ℕ) (i j : ℕ) → i + length vs ≤ length l → j < length vs → getD (sets l i vs) (i + j) 0 ≡ getD vs j 0
 sets-at [] l i j fits h = absurd (not-suc-le-zero h)
 sets-at (v ∷ vs) l i zero fits h =
     sets-other vs (set l i v) (suc i) (i + 0) (inl (omega arith))
@@ -42,14 +42,37 @@ sets-at (v ∷ vs) l i (suc j) fits h =
     ap (λ (k : ℕ). getD (sets (set l i v) (suc i) vs) k 0) (add-suc i j ∙ sym (suc-add i j))
     ∙ sets-at vs (set l i v) (suc i) j (simp length-set (omega arith)) (le-of-suc-le-suc h)
 
--- words put where they stand change nothing
-pub sets-same : (vs l : List ℕ) (i : ℕ) → ((j : ℕ) → j < length vs → getD vs j 0 ≡ getD l (i + j) 0) → sets l i vs ≡ l
+-- ---- words that stand
+
+-- these words stand in l from place i on
+abbrev pub Stand : List ℕ → List ℕ → ℕ → Type 0
+Stand vs l i = (j : ℕ) → j < length vs → getD vs j 0 ≡ getD l (i + j) 0
+
+-- the first put where it stands changes nothing, and the others stand one place on, also where the first is another
+module _ (v : ℕ) (vs l : List ℕ) (i : ℕ) (stand : Stand (v ∷ vs) l i) where
+  put-first : set l i v ≡ l
+  put-first = ap (set l i) (stand 0 (omega arith) ∙ ap (λ (k : ℕ). getD l k 0) (add-zero i)) ∙ set-getD l i 0
+
+  pub stand-on : (w : ℕ) → Stand vs (set l i w) (suc i)
+  stand-on w j h =
+      stand (suc j) (suc-le-suc h)
+      ∙ ap (λ (k : ℕ). getD l k 0) (add-suc i j ∙ sym (suc-add i j))
+      ∙ sym (getD-set-other l i (suc i + j) w 0 (λ e. omega arith))
+
+-- so words put where they stand change nothing, and one of them changed is one word put there
+pub sets-same : (vs l : List ℕ) (i : ℕ) → Stand vs l i → sets l i vs ≡ l
 sets-same [] l i stand = refl
 sets-same (v ∷ vs) l i stand =
-    let here : set l i v ≡ l = ap (set l i) (stand 0 (omega arith) ∙ ap (λ (k : ℕ). getD l k 0) (add-zero i)) ∙ set-getD l i 0 in
-    ap (λ (m : List ℕ). sets m (suc i) vs) here
-    ∙ sets-same vs l (suc i)
-    (λ j h. stand (suc j) (suc-le-suc h) ∙ ap (λ (k : ℕ). getD l k 0) (add-suc i j ∙ sym (suc-add i j)))
+    sets-same vs (set l i v) (suc i) (stand-on v vs l i stand v) ∙ put-first v vs l i stand
+
+pub one-put : (vs l : List ℕ) (i j w : ℕ) → Stand vs l i → j < length vs → sets l i (set vs j w) ≡ set l (i + j) w
+one-put [] l i j w stand h = absurd (not-suc-le-zero h)
+one-put (v ∷ vs) l i zero w stand h =
+    sets-same vs (set l i w) (suc i) (stand-on v vs l i stand w) ∙ ap (λ (k : ℕ). set l k w) (sym (add-zero i))
+one-put (v ∷ vs) l i (suc j) w stand h =
+    one-put vs (set l i v) (suc i) j w (stand-on v vs l i stand v) (le-of-suc-le-suc h)
+    ∙ ap (λ (m : List ℕ). set m (suc i + j) w) (put-first v vs l i stand)
+    ∙ ap (λ (k : ℕ). set l k w) (suc-add i j ∙ sym (add-suc i j))
 
 -- ---- what is a processor's own, stored at its row
 

@@ -203,7 +203,7 @@ same-at a zero i = refl
 same-at a (suc n) zero = refl
 same-at a (suc n) (suc i) = same-at a n i
 
-pub fresh-own : (b : Board) (p : ℕ) → ownOf (recordOf (fresh b) p) ≡ freeOwn
+fresh-own : (b : Board) (p : ℕ) → ownOf (recordOf (fresh b) p) ≡ freeOwn
 unfolding fresh recordOf recordIn
 fresh-own b p = same-at freeOwn rows (rowOf b p)
 

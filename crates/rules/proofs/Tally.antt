@@ -15,7 +15,7 @@ use Rattle.rules.specs.AccessList.{Entry}
 use Rattle.rules.specs.Role.{permits, permitted}
 use Rattle.rules.specs.Message.{Query, isKind, kindIn, newHostOf}
 use Rattle.rules.specs.Outcome.{View, isFree, isController, outcomeOf, carriedOut}
-use Rattle.rules.specs.Tally.{Tally, grants, overrides, handovers, releases, tallyIn, tallyOf, countsFor, cap, oneMore, tallyAfter, talliesAfter, heldCount, differBy, differenceGood}
+use Rattle.rules.specs.Tally.{Tally, grants, overrides, handovers, releases, tallyIn, tallyOf, countsFor, tallyCount, controllerChanges, cap, oneMore, tallyAfter, talliesAfter, heldCount, differBy, differenceGood}
 use Rattle.rules.specs.Effect.{effectOf, recordAfter}
 use Rattle.rules.specs.Warranty.{DifferenceTold}
 use Rattle.rules.proofs.Tests.{decide, clash, cond-true, cond-false}
@@ -111,46 +111,34 @@ module _ (t : Tally) (v : View) (q : Query) where
 
 -- ---- who controls before and after
 
--- what a host other than 0 controls is not free
-held-not-free : (r : Record) (h : ℕ) → isController r h ≡ true → eqb h 0 ≡ false → isFree r ≡ false
-held-not-free r h is some = subst⁻¹ (λ (n : ℕ). eqb n 0 ≡ false) (eqb-true (r .controller) h is) some
-
 -- host 0 is permitted nowhere
 permitted-not-zero : (b : Board) (e : Entry) (h : ℕ) → permitted b e h ≡ true → eqb h 0 ≡ false
 unfolding permitted
 permitted-not-zero b e h is =
     ⊎-elim (λ zero. clash is (ap permits (role-zero b e h (eqb-true h 0 zero)))) (λ some. some) (decide (eqb h 0))
 
--- what a message that is carried out says of it
+-- the sender of a message that is carried out is not host 0, and so what it controls is not free
 module _ (v : View) (q : Query) {k : Kind} (a : Allowed v q k) where
   sender-not-zero : eqb (q .channel) 0 ≡ false
   sender-not-zero = active-not-zero (v .board) (q .channel) (sender-active (v .board) q (a .sender))
 
+  held-not-free : isController (v .state) (q .channel) ≡ true → isFree (v .state) ≡ false
+  held-not-free is = subst⁻¹ (λ (n : ℕ). eqb n 0 ≡ false) (eqb-true (v .state .controller) (q .channel) is) sender-not-zero
+
 -- ---- each change of the controller counts for one tally, and nothing else counts
 
--- for how many tallies a message of type k counts
-abbrev inAll : Kind → ℕ → Record → ℕ
-inAll k h r =
-    cond (countsFor grants k h r) 1 0
-    + (cond (countsFor overrides k h r) 1 0 + (cond (countsFor handovers k h r) 1 0 + cond (countsFor releases k h r) 1 0))
-
--- 1 where the controller is another one afterwards
-abbrev changes : ℕ → Record → ℕ
-changes h r = cond (isController r h) 0 1
-
 kept-counts : (k : Kind) (r : Record) → isKind k Request ≡ false → isKind k Handover ≡ false → isKind k Release ≡ false
-    → inAll k (r .controller) r ≡ changes (r .controller) r
+    → tallyCount k (r .controller) r ≡ controllerChanges (r .controller) r
 kept-counts k r a b c =
     let none = counts-none k (r .controller) r a b c in
     rw (none grants, none overrides, none handovers, none releases, eq-eqb (r .controller) (r .controller) refl)
 
 module _ (r : Record) (h : ℕ) where
-  request-counts : eqb h 0 ≡ false → inAll Request h r ≡ changes h r
+  request-counts : eqb h 0 ≡ false → tallyCount Request h r ≡ controllerChanges h r
   unfolding countsFor
   request-counts some =
       ⊎-elim
       (λ (free : isFree r ≡ true).
-      let is : r .controller ≡ 0 = eqb-true (r .controller) 0 free in
       ⊎-elim (λ mine. clash (subst (λ (n : ℕ). eqb n 0 ≡ true) (eqb-true (r .controller) h mine) free) some)
       (λ (other : isController r h ≡ false). rw (free, other))
       (decide (isController r h)))
@@ -159,21 +147,21 @@ module _ (r : Record) (h : ℕ) where
       (decide (isController r h)))
       (decide (isFree r))
 
-  handover-counts : inAll Handover h r ≡ changes h r
+  handover-counts : tallyCount Handover h r ≡ controllerChanges h r
   unfolding countsFor
   handover-counts =
       ⊎-elim (λ (mine : isController r h ≡ true). rw mine) (λ (other : isController r h ≡ false). rw other)
       (decide (isController r h))
 
-release-counts : (r : Record) → isFree r ≡ false → inAll Release 0 r ≡ changes 0 r
+release-counts : (r : Record) → isFree r ≡ false → tallyCount Release 0 r ≡ controllerChanges 0 r
 unfolding countsFor
 release-counts r held = rw held
 
 effect-counts : (k : Kind) (v : View) (q : Query) → Allowed v q k
-    → inAll k (effectOf k q (v .state) .controller) (v .state) ≡ changes (effectOf k q (v .state) .controller) (v .state)
+    → tallyCount k (effectOf k q (v .state) .controller) (v .state) ≡ controllerChanges (effectOf k q (v .state) .controller) (v .state)
 effect-counts Request v q a = request-counts (v .state) (q .channel) (sender-not-zero v q a)
 effect-counts Release v q a =
-    release-counts (v .state) (held-not-free (v .state) (q .channel) (a .right) (sender-not-zero v q a))
+    release-counts (v .state) (held-not-free v q a (a .right))
 effect-counts Handover v q a = handover-counts (v .state) (newHostOf (q .message))
 effect-counts SetConfig v q a = kept-counts SetConfig (v .state) refl refl refl
 effect-counts SetControl v q a = kept-counts SetControl (v .state) refl refl refl
@@ -184,10 +172,10 @@ effect-counts Other v q a = kept-counts Other (v .state) refl refl refl
 
 -- "calls that change no controller count in none", and one that changes it counts in one
 pub counted-once : (v : View) (q : Query) → carriedOut (outcomeOf v q) ≡ true
-    → inAll (kindIn (q .message)) (recordAfter v q .controller) (v .state) ≡ changes (recordAfter v q .controller) (v .state)
+    → tallyCount (kindIn (q .message)) (recordAfter v q .controller) (v .state) ≡ controllerChanges (recordAfter v q .controller) (v .state)
 unfolding recordAfter
 counted-once v q ok =
-    subst⁻¹ (λ (r : Record). inAll (kindIn (q .message)) (r .controller) (v .state) ≡ changes (r .controller) (v .state))
+    subst⁻¹ (λ (r : Record). tallyCount (kindIn (q .message)) (r .controller) (v .state) ≡ controllerChanges (r .controller) (v .state))
     (cond-true (effectOf (kindIn (q .message)) q (v .state)) (v .state) ok)
     (effect-counts (kindIn (q .message)) v q (allowed v q ok))
 
@@ -261,9 +249,9 @@ module _ (v : View) (q : Query) (good : differenceGood (v .state) ≡ true) wher
   unfolding differenceGood heldCount
   effect-differs Request a = request-differs q (v .state) good (sender-not-zero v q a)
   effect-differs Release a =
-      release-differs q (v .state) good (held-not-free (v .state) (q .channel) (a .right) (sender-not-zero v q a))
+      release-differs q (v .state) good (held-not-free v q a (a .right))
   effect-differs Handover a =
-      handover-differs q (v .state) good (held-not-free (v .state) (q .channel) (a .right) (sender-not-zero v q a))
+      handover-differs q (v .state) good (held-not-free v q a (a .right))
       (permitted-not-zero (v .board) (v .entry) (newHostOf (q .message)) (a .operands))
   effect-differs SetConfig a = good
   effect-differs SetControl a = good

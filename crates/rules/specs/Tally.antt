@@ -37,6 +37,15 @@ countsFor overrides k h r = isKind k Request && not (isFree r || isController r 
 countsFor handovers k h r = isKind k Handover && not (isController r h)
 countsFor releases k h r = isKind k Release
 
+-- for how many tallies it counts; and 1 where it leaves another controller, else 0
+abbrev pub tallyCount : Kind → ℕ → Record → ℕ
+tallyCount k h r =
+    cond (countsFor grants k h r) 1 0
+    + (cond (countsFor overrides k h r) 1 0 + (cond (countsFor handovers k h r) 1 0 + cond (countsFor releases k h r) 1 0))
+
+abbrev pub controllerChanges : ℕ → Record → ℕ
+controllerChanges h r = cond (isController r h) 0 1
+
 -- each stays at 4,294,967,295 once there
 abbrev pub cap : ℕ
 cap = 4294967295

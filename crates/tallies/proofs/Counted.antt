@@ -1,12 +1,12 @@
 -- The controller and one tally changed in place are what the rules leave at the row: the other words stand. Assumes nothing.
-use Prim.Native.Nat.{ℕ, zero, suc, _+_, _*_, _≤_, _<_, suc-le-suc}
+use Prim.Native.Nat.{ℕ, suc, _+_, _*_, _≤_, _<_}
 use mathlib.Core.Path.{_≡_, refl, sym, ap, _∙_}
 use mathlib.Core.Bool.{true, false}
 use mathlib.Core.List.{List, [], _∷_}
-use native.Mathlib.Nat.{add-zero, add-suc, suc-add, not-suc-le-zero, le-of-suc-le-suc}
+use native.Mathlib.Nat.{add-zero, add-suc, suc-add}
 use native.Mathlib.Omega.{arith}
-use lib.ListN.{length, getD, set}
-use lib.Seq.{sets, set-getD, getD-set-other}
+use lib.ListN.{getD, set}
+use lib.Seq.{sets, getD-set-other}
 use lib.Dec.{eqb, lit≤}
 use borrow.Author.Tests.{eq-eqb, ne-eqb}
 use Rattle.rules.specs.declared.Kind.{Kind}
@@ -17,32 +17,8 @@ use Rattle.rules.specs.Tally.{countsFor, oneMore, tallyAfter, talliesAfter}
 use Rattle.rules.specs.Effect.{heldBy}
 use Rattle.rules.specs.State.{Own, ownOf}
 use Rattle.records.specs.Memory.{wordsOf, ownAt, recordAt, withOwn}
-use Rattle.records.proofs.LentMemory.{sets-same, word-by, own-is, own-none, own-stands}
+use Rattle.records.proofs.LentMemory.{Stand, stand-on, sets-same, one-put, word-by, own-is, own-none, own-stands}
 use Rattle.tallies.specs.Holder.{heldOwn, withHolder}
-
--- ---- words that stand
-
--- these words stand in l from place i on
-abbrev Stand : List ℕ → List ℕ → ℕ → Type 0
-Stand vs l i = (j : ℕ) → j < length vs → getD vs j 0 ≡ getD l (i + j) 0
-
--- so do all but the first, one place on, also where the first is another
-stand-on : (v w : ℕ) (vs l : List ℕ) (i : ℕ) → Stand (v ∷ vs) l i → Stand vs (set l i w) (suc i)
-stand-on v w vs l i stand j h =
-    stand (suc j) (suc-le-suc h)
-    ∙ ap (λ (k : ℕ). getD l k 0) (add-suc i j ∙ sym (suc-add i j))
-    ∙ sym (getD-set-other l i (suc i + j) w 0 (λ e. omega arith))
-
--- one of them changed is one word put there
-one-put : (vs l : List ℕ) (i j w : ℕ) → Stand vs l i → j < length vs → sets l i (set vs j w) ≡ set l (i + j) w
-one-put [] l i j w stand h = absurd (not-suc-le-zero h)
-one-put (v ∷ vs) l i zero w stand h =
-    sets-same vs (set l i w) (suc i) (stand-on v w vs l i stand) ∙ ap (λ (k : ℕ). set l k w) (sym (add-zero i))
-one-put (v ∷ vs) l i (suc j) w stand h =
-    let here : set l i v ≡ l = ap (set l i) (stand 0 (omega arith) ∙ ap (λ (k : ℕ). getD l k 0) (add-zero i)) ∙ set-getD l i 0 in
-    one-put vs (set l i v) (suc i) j w (stand-on v v vs l i stand) (le-of-suc-le-suc h)
-    ∙ ap (λ (m : List ℕ). set m (suc i + j) w) here
-    ∙ ap (λ (k : ℕ). set l k w) (suc-add i j ∙ sym (add-suc i j))
 
 -- ---- a row with another controller
 
@@ -64,7 +40,7 @@ module _ (m : List ℕ) (row h : ℕ) where
 
   others-stand : Stand others (set m at h) (suc at)
   others-stand =
-      stand-on (getD m (at + 0) 0) h others m at (λ j k. word-by (λ (i : ℕ). getD m (at + i) 0) j k)
+      stand-on (getD m (at + 0) 0) others m at (λ j k. word-by (λ (i : ℕ). getD m (at + i) 0) j k) h
 
   -- the memory with the controller put, and with one more in one tally
   abbrev held : List ℕ

@@ -20,9 +20,9 @@ use Rattle.rules.specs.Block.{listPart}
 use Rattle.rules.specs.Outcome.{carriedOut}
 use Rattle.rules.specs.State.{listed, State, fresh, recordOf, stored}
 use Rattle.rules.specs.Call.{Offer, list, block, verdictTo, taken, afterOffer, afterMessage, Answer, answerTo, Lent, queryOf, Call, offer, message, next}
-use Rattle.rules.specs.Sequence.{run, freeOrPermitted, Sound}
+use Rattle.rules.specs.Sequence.{run, freeOrPermitted}
 use Rattle.rules.proofs.Tests.{decide, cond-true}
-use Rattle.rules.proofs.Sound.{offer-kept as kept-by-offer, first-accepted, block-as-list, sound-fresh, sound-next, left-sound}
+use Rattle.rules.proofs.Sound.{offer-kept as kept-by-offer, first-accepted, block-as-list, left-sound}
 use Rattle.noninterference.specs.Statement.{clustersWhole, loads, listOf, answers, Noninterference, boardLeft}
 use Rattle.noninterference.proofs.Theorem.{loaded-on, listed-clusters, named-all, no-trace}
 use Rattle.board.specs.Memory.{boardIn}
@@ -160,10 +160,6 @@ start b bytes = afterOffer (fresh b) (list bytes)
 module _ (b : Board) (bytes : List ℕ) {m : Memories} (loaded : Loaded b bytes m) where
   pub start-good : Good b
   start-good = begun loaded .on-board
-
-  pub start-sound : Sound (start b bytes)
-  unfolding next
-  start-sound = sound-next (fresh b) (sound-fresh b start-good) (offer (list bytes))
 
   start-listed : listed (start b bytes .setup .source) ≡ true
   unfolding afterOffer taken listed
