@@ -14,7 +14,7 @@ use Rattle.rules.specs.declared.Verdict.the-variants.{Accepted}
 use Rattle.rules.specs.Table.{Line, firstOf, anyOf}
 use Rattle.rules.specs.Bytes.{byteAt}
 use Rattle.rules.specs.Board.{Board, activeHost, rowOf, onBoard}
-use Rattle.rules.specs.Substructure.{partAt, partsFrom, numberIn, used, names, namedIn, inTurn}
+use Rattle.rules.specs.Substructure.{partAt, partsOf, partsFrom, numberIn, used, names, namedIn, inTurn}
 use Rattle.rules.proofs.Tests.{decide, firstOf-append}
 use Rattle.rules.proofs.Parts.{number-at, parts-next}
 use Rattle.entries.specs.Entries.{partsBefore, writtenBefore, verdictFrom}
@@ -71,7 +71,7 @@ from-entry lines width bytes e h =
 
 -- after the last there is no fault
 pub from-last : (lines : List (List ℕ) → List ℕ → List (Line Verdict)) (width : ℕ) (bytes : List ℕ) (e : ℕ) → e ≡ 32 → verdictFrom lines width bytes e ≡ Accepted
-unfolding verdictFrom partsFrom inTurn firstOf
+unfolding verdictFrom partsOf inTurn firstOf
 from-last lines width bytes e last = rw last
 
 -- ---- A5 and A7: what the code's tests say

@@ -18,9 +18,10 @@ use Rattle.rules.specs.Table.{tableOf}
 use Rattle.rules.specs.Bytes.{u16At}
 use Rattle.rules.specs.Board.{Board, rows, rowOf, onBoard}
 use Rattle.rules.specs.Verdict.{accepted}
-use Rattle.rules.specs.Substructure.{partAt, partsFrom, used}
+use Rattle.rules.specs.Substructure.{partAt, partsOf, partsFrom, used}
 use Rattle.rules.specs.AccessList.{Entry, noEntry, processorIn, masterIn, secondariesIn, entryIn, withPart, withParts, noEntries, entriesOf}
 use Rattle.rules.proofs.Tests.{decide, cond-true, cond-false}
+use Rattle.rules.proofs.Parts.{parts-step}
 use Rattle.rules.proofs.Verdicts.{not-accepted}
 use Rattle.access.specs.Memory.{listedIn, entryPlace, entryAt, entriesIn}
 use Rattle.loading.specs.Loaded.{wordsOf, putEntry, entriesBefore}
@@ -125,10 +126,13 @@ rows-before b list zero = rows-none rows
 rows-before b list (suc e) = rows-part b (partAt 9 list e) (rows-before b list e)
 
 from-before : (b : Board) (list : List ℕ) (e n : ℕ) → withParts b (partsFrom 9 list e n) (entriesBefore b list e) ≡ entriesBefore b list (e + n)
-unfolding entriesBefore withParts partsFrom
+unfolding entriesBefore withParts partsOf
 from-before b list e zero = ap (entriesBefore b list) (sym (add-zero e))
 from-before b list e (suc n) =
-    let more : suc e + n ≡ e + suc n = omega arith in from-before b list (suc e) n ∙ ap (entriesBefore b list) more
+    let more : suc e + n ≡ e + suc n = omega arith in
+    ap (λ (parts : List (List ℕ)). withParts b parts (entriesBefore b list e)) (parts-step 9 list e n)
+    ∙ from-before b list (suc e) n
+    ∙ ap (entriesBefore b list) more
 
 pub entries-all : (b : Board) (list : List ℕ) → entriesBefore b list 32 ≡ entriesOf b list
 unfolding entriesOf entriesBefore

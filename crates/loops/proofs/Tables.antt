@@ -11,11 +11,11 @@ use lib.Dec.{eqb}
 use borrow.Author.Tests.{eq-eqb, ne-eqb}
 use Rattle.rules.specs.Table.{tableOf}
 use Rattle.rules.specs.Bytes.{byteAt}
-use Rattle.rules.specs.Substructure.{partAt, partsFrom, names}
+use Rattle.rules.specs.Substructure.{partAt, partsOf, partsFrom, names}
 use Rattle.rules.specs.Hierarchy.{pairs, hostIn, supervisorIn, supervisorOf, meets, onLoop, firstHost}
 use Rattle.rules.proofs.Tests.{decide, cond-true, cond-false}
 use Rattle.rules.proofs.Tables.{table-here, table-below, table-set}
-use Rattle.rules.proofs.Parts.{parts-length, part-byte, number-read, parts-next}
+use Rattle.rules.proofs.Parts.{parts-length, parts-step, part-byte, number-read, parts-next}
 use Rattle.loops.specs.Supervisors.{supervisorsIn, readFrom}
 
 -- ---- filled
@@ -113,14 +113,15 @@ follow-same up down agree bytes h (suc n) x small =
 
 -- a supervisor is a byte of the hierarchy, or 0
 supervisor-small : (bytes : List ℕ) → ((i : ℕ) → getD bytes i 0 < 256) → (e n h : ℕ) → supervisorOf (partsFrom 2 bytes e n) h < 256
-unfolding supervisorOf partsFrom
+unfolding supervisorOf partsOf
 supervisor-small bytes small e zero h = omega arith
 supervisor-small bytes small e (suc n) h =
-    ⊎-elim
+    subst (λ (pairs : List (List ℕ)). supervisorOf pairs h < 256) (sym (parts-step 2 bytes e n))
+    (⊎-elim
     (λ (t : names h (partAt 2 bytes e) ≡ true).
     rw t (subst (λ (x : ℕ). x < 256) (sym (part-byte 2 bytes e 1 (omega arith))) (small (4 + 2 * e + 1))))
     (λ (f : names h (partAt 2 bytes e) ≡ false). rw f (supervisor-small bytes small (suc e) n h))
-    (decide (names h (partAt 2 bytes e)))
+    (decide (names h (partAt 2 bytes e))))
 
 -- what is found by the table is whether the host lies on a loop
 pub on-loop-is : {table : List ℕ} {host : ℕ} {on : Bool} (bytes : List ℕ) (i : ℕ) → ((k : ℕ) → getD bytes k 0 < 256) → table ≡ supervisorsIn bytes

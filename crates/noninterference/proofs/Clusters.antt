@@ -10,7 +10,7 @@ use Rattle.rules.specs.Table.{firstOf, anyOf, allOf, placeOf, tableOf}
 use Rattle.rules.specs.Board.{Board, boardHost, activeHost, rowOf, onBoard, classAt, classOf, homeAt, maskOf}
 use Rattle.rules.specs.Description.{ourDescription, listsProcessor, markIn, rowIn, classIn, sharedCluster, sharedIn, homeIn, boardOf, ours}
 use Rattle.rules.specs.Verdict.{accepted}
-use Rattle.rules.specs.Substructure.{partsFrom, namedIn, inTurn}
+use Rattle.rules.specs.Substructure.{partsOf, namedIn, inTurn}
 use Rattle.rules.specs.AccessList.{noEntry, parts, entryTable, contentTable, listTable, verdictOf, entryIn, withPart, withParts, noEntries, entriesOf, hasEntry}
 use Rattle.rules.specs.Role.{namesHost, roleTable, roleOf, permitted}
 use Rattle.rules.specs.Message.{kindOf, namesProcessor, subjectOf, isAbout}
@@ -32,24 +32,24 @@ abbrev start : State
 start = run (fresh ours) (offer (list clusterList) ∷ [])
 
 start-board : start .setup .board ≡ ours
-unfolding tableOf ours ourDescription listsProcessor markIn rowIn classIn sharedCluster sharedIn homeIn boardOf firstOf anyOf boardHost activeHost placeOf rowOf onBoard partsFrom namedIn entryTable inTurn contentTable listTable verdictOf accepted listed fresh verdictTo taken afterOffer next run
+unfolding tableOf ours ourDescription listsProcessor markIn rowIn classIn sharedCluster sharedIn homeIn boardOf firstOf anyOf boardHost activeHost placeOf rowOf onBoard partsOf namedIn entryTable inTurn contentTable listTable verdictOf accepted listed fresh verdictTo taken afterOffer next run
 start-board = refl
 
 -- demand 3 holds for each choice from it that holds the cluster whole or not at all
 of-choice : (chosen : List ℕ) → allOf (namedIn (parts clusterList)) chosen ≡ true → clustersWhole ours chosen ≡ true → Noninterference start chosen
-unfolding loads listOf tableOf ours ourDescription listsProcessor markIn rowIn classIn sharedCluster sharedIn homeIn boardOf firstOf anyOf allOf boardHost activeHost placeOf rowOf onBoard partsFrom namedIn entryTable inTurn contentTable listTable verdictOf accepted
+unfolding loads listOf tableOf ours ourDescription listsProcessor markIn rowIn classIn sharedCluster sharedIn homeIn boardOf firstOf anyOf allOf boardHost activeHost placeOf rowOf onBoard partsOf namedIn entryTable inTurn contentTable listTable verdictOf accepted
 of-choice chosen named whole = freshly-loaded (list clusterList) chosen refl named whole
 
 pub one-alone : Noninterference start (1 ∷ [])
-unfolding anyOf allOf partsFrom namedIn
+unfolding anyOf allOf partsOf namedIn
 one-alone = of-choice (1 ∷ []) refl (whole-choices .0)
 
 pub the-cluster : Noninterference start (32 ∷ 33 ∷ [])
-unfolding anyOf allOf partsFrom namedIn
+unfolding anyOf allOf partsOf namedIn
 the-cluster = of-choice (32 ∷ 33 ∷ []) refl (whole-choices .1)
 
 pub all-four : Noninterference start (1 ∷ 2 ∷ 32 ∷ 33 ∷ [])
-unfolding anyOf allOf partsFrom namedIn
+unfolding anyOf allOf partsOf namedIn
 all-four = of-choice (1 ∷ 2 ∷ 32 ∷ 33 ∷ []) refl (whole-choices .2)
 
 -- 32 alone is no such choice
@@ -69,12 +69,12 @@ disturbed = request 10 32 ∷ request 12 33 ∷ setControl 12 33 0x1 0 ∷ []
 
 -- the two agree in what 32's insiders send about 32
 same-picks : picks (start .setup) (32 ∷ []) quiet ≡ picks (start .setup) (32 ∷ []) disturbed
-unfolding tableOf ours ourDescription listsProcessor markIn rowIn classIn sharedCluster sharedIn homeIn boardOf firstOf anyOf boardHost activeHost placeOf rowOf onBoard noEntry partsFrom namedIn entryTable inTurn contentTable listTable verdictOf accepted entryIn withPart withParts noEntries entriesOf hasEntry namesHost roleTable roleOf permitted kindOf namesProcessor subjectOf isAbout listed fresh entryOf verdictTo taken afterOffer permittedFor insider aboutChosen picked picks next run
+unfolding tableOf ours ourDescription listsProcessor markIn rowIn classIn sharedCluster sharedIn homeIn boardOf firstOf anyOf boardHost activeHost placeOf rowOf onBoard noEntry partsOf namedIn entryTable inTurn contentTable listTable verdictOf accepted entryIn withPart withParts noEntries entriesOf hasEntry namesHost roleTable roleOf permitted kindOf namesProcessor subjectOf isAbout listed fresh entryOf verdictTo taken afterOffer permittedFor insider aboutChosen picked picks next run
 same-picks = refl
 
 -- and leave 32 different control words
 pub different-words : (recordOf (run start quiet) 32 .control ≡ 0) × (recordOf (run start disturbed) 32 .control ≡ 1)
-unfolding tableOf ours ourDescription listsProcessor markIn rowIn classIn sharedCluster sharedIn homeIn boardOf firstOf anyOf boardHost activeHost placeOf rowOf onBoard classAt classOf homeAt maskOf noEntry partsFrom namedIn entryTable inTurn contentTable listTable verdictOf accepted entryIn withPart withParts noEntries entriesOf hasEntry namesHost roleTable roleOf permitted kindOf subjectOf senderWrong wordsMissing waitFailed admission byWords outcomeTable outcomeOf carriedOut countsFor oneMore tallyAfter talliesAfter recordAfter listed freeOwn noTallies fresh entryOf recordIn recordOf viewOf putIn stored verdictTo taken afterOffer afterMessage next run
+unfolding tableOf ours ourDescription listsProcessor markIn rowIn classIn sharedCluster sharedIn homeIn boardOf firstOf anyOf boardHost activeHost placeOf rowOf onBoard classAt classOf homeAt maskOf noEntry partsOf namedIn entryTable inTurn contentTable listTable verdictOf accepted entryIn withPart withParts noEntries entriesOf hasEntry namesHost roleTable roleOf permitted kindOf subjectOf senderWrong wordsMissing waitFailed admission byWords outcomeTable outcomeOf carriedOut countsFor oneMore tallyAfter talliesAfter recordAfter listed freeOwn noTallies fresh entryOf recordIn recordOf viewOf putIn stored verdictTo taken afterOffer afterMessage next run
 different-words = (refl, refl)
 
 -- so demand 3 would be false of 32 alone

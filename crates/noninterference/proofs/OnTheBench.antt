@@ -7,7 +7,7 @@ use Rattle.rules.specs.Table.{firstOf, anyOf, allOf, placeOf, allFrom, tableOf}
 use Rattle.rules.specs.Board.{boardHost, activeHost, rowOf, onBoard, homeAt, homeOf, shareControl}
 use Rattle.rules.specs.Description.{ourDescription, listsProcessor, markIn, rowIn, classIn, sharedCluster, sharedIn, homeIn, boardOf, ours}
 use Rattle.rules.specs.Verdict.{accepted}
-use Rattle.rules.specs.Substructure.{partsFrom, namedIn, inTurn}
+use Rattle.rules.specs.Substructure.{partsOf, namedIn, inTurn}
 use Rattle.rules.specs.AccessList.{noEntry, entryTable, contentTable, listTable, verdictOf, entryIn, withPart, withParts, noEntries, entriesOf, hasEntry}
 use Rattle.rules.specs.Hierarchy.{supervisorOf, meets, onLoop, firstHost, loopHost, pairTable, hierarchyTable}
 use Rattle.rules.specs.Block.{otpTable, blockTable, blockVerdict}
@@ -29,12 +29,12 @@ abbrev start : State
 start = run (fresh ours) (offer (list benchList) ∷ [])
 
 pub on-the-bench : Noninterference start bothR5
-unfolding loads listOf allFrom homeAt homeOf tableOf ours ourDescription listsProcessor markIn rowIn classIn sharedCluster sharedIn homeIn boardOf firstOf anyOf allOf boardHost activeHost placeOf rowOf onBoard shareControl partsFrom namedIn entryTable inTurn contentTable listTable verdictOf accepted clustersWhole
+unfolding loads listOf allFrom homeAt homeOf tableOf ours ourDescription listsProcessor markIn rowIn classIn sharedCluster sharedIn homeIn boardOf firstOf anyOf allOf boardHost activeHost placeOf rowOf onBoard shareControl partsOf namedIn entryTable inTurn contentTable listTable verdictOf accepted clustersWhole
 on-the-bench = freshly-loaded (list benchList) bothR5 refl refl refl
 
 -- and so it is from a block with that list
 pub on-a-block : Noninterference (run (fresh ours) (offer (block 0 1 benchBlock) ∷ [])) bothR5
-unfolding loads listOf allFrom homeAt homeOf tableOf ours ourDescription listsProcessor markIn rowIn classIn sharedCluster sharedIn homeIn boardOf firstOf anyOf allOf boardHost activeHost placeOf rowOf onBoard shareControl partsFrom namedIn entryTable inTurn contentTable listTable verdictOf accepted clustersWhole supervisorOf meets onLoop firstHost loopHost pairTable hierarchyTable otpTable blockTable blockVerdict
+unfolding loads listOf allFrom homeAt homeOf tableOf ours ourDescription listsProcessor markIn rowIn classIn sharedCluster sharedIn homeIn boardOf firstOf anyOf allOf boardHost activeHost placeOf rowOf onBoard shareControl partsOf namedIn entryTable inTurn contentTable listTable verdictOf accepted clustersWhole supervisorOf meets onLoop firstHost loopHost pairTable hierarchyTable otpTable blockTable blockVerdict
 on-a-block = freshly-loaded (block 0 1 benchBlock) bothR5 refl refl refl
 
 -- host 3 takes processor 1, sets its vector and hands it over to 5
@@ -47,7 +47,7 @@ disturbed =
     request 12 ∷ request 3 ∷ setConfig 12 0x41C00100 0 ∷ offer (list benchList) ∷ setConfig 3 0x41C00080 0 ∷ offer (block 0 1 benchBlock) ∷ handover 12 12 ∷ handover 3 5 ∷ request 12 ∷ []
 
 same-picks : picks (start .setup) bothR5 quiet ≡ picks (start .setup) bothR5 disturbed
-unfolding tableOf ours ourDescription listsProcessor markIn rowIn classIn sharedCluster sharedIn homeIn boardOf firstOf anyOf boardHost activeHost placeOf rowOf onBoard noEntry partsFrom namedIn entryTable inTurn contentTable listTable verdictOf accepted entryIn withPart withParts noEntries entriesOf hasEntry namesHost roleTable roleOf permitted kindOf namesProcessor subjectOf isAbout listed fresh entryOf verdictTo taken afterOffer permittedFor insider aboutChosen picked picks next run
+unfolding tableOf ours ourDescription listsProcessor markIn rowIn classIn sharedCluster sharedIn homeIn boardOf firstOf anyOf boardHost activeHost placeOf rowOf onBoard noEntry partsOf namedIn entryTable inTurn contentTable listTable verdictOf accepted entryIn withPart withParts noEntries entriesOf hasEntry namesHost roleTable roleOf permitted kindOf namesProcessor subjectOf isAbout listed fresh entryOf verdictTo taken afterOffer permittedFor insider aboutChosen picked picks next run
 same-picks = refl
 
 -- so host 12 changes none of the answers

@@ -2,7 +2,7 @@
 -- on the board. Assumes nothing.
 use Prim.Native.Nat.{ℕ, _≤_, _<_}
 use mathlib.Core.Path.{_≡_, refl, subst⁻¹, ap, _∙_}
-use mathlib.Core.Bool.{Bool, true, false, cond, not, _||_, or-false}
+use mathlib.Core.Bool.{Bool, true, false, cond, not, _&&_, _||_, or-false}
 use mathlib.Core.List.{List, [], _∷_, map}
 use mathlib.Core.Logic.{⊎-elim}
 use native.Mathlib.Omega.{arith}
@@ -16,12 +16,11 @@ use Rattle.rules.specs.Verdict.{accepted}
 use Rattle.rules.specs.Board.{rows, boardHost, activeHost, secureHost, onBoard}
 use Rattle.rules.specs.Description.{Host, Description, nothingListed, ourDescription, bodySize, fieldGood, noItem, itemIn, fieldSize, itemsFrom, itemsIn, isHost, listsHost, listsProcessor, repeats, otherClass, isFull, itemTable, withItem, itemsTable, descriptionTable, boardVerdict, withItems, descriptionIn, markIn, boardOf, described, ours, ourBytes}
 use Rattle.rules.proofs.Tests.{decide, cleared, passed}
-use Rattle.rules.proofs.Tables.{table-here, table-past}
+use Rattle.rules.proofs.Tables.{table-here, table-past, table-below}
 use Rattle.rules.proofs.Rows.{listed-on}
 
--- ---- document 01's board
+-- ---- document 01's board: its description is taken, and describes it
 
--- its description is taken, and describes it
 pub ours-taken : boardVerdict false ourBytes ≡ Accepted
 unfolding boardVerdict descriptionTable itemsTable itemTable firstOf anyOf nothingListed bodySize fieldGood noItem itemIn fieldSize itemsFrom itemsIn listsHost listsProcessor repeats otherClass isFull withItem
 ours-taken = refl
@@ -29,15 +28,6 @@ ours-taken = refl
 pub ours-described : described ourBytes ≡ ours
 unfolding described ours descriptionIn withItems ourDescription firstOf nothingListed bodySize fieldGood noItem itemIn fieldSize itemsFrom itemsIn withItem
 ours-described = refl
-
--- "3 and 10 secure; 4, 5, 6, 12, 13 not secure": of all host bytes
-pub ours-secure : tableOf (secureHost ours) 0 256 ≡ tableOf (λ (h : ℕ). eqb h 3 || eqb h 10) 0 256
-unfolding tableOf secureHost ours ourDescription boardOf markIn firstOf
-ours-secure = refl
-
-pub ours-hosts : tableOf (activeHost ours) 0 256 ≡ tableOf (λ (h : ℕ). anyOf (eqb h) (3 ∷ 10 ∷ 4 ∷ 5 ∷ 6 ∷ 12 ∷ 13 ∷ [])) 0 256
-unfolding tableOf anyOf activeHost boardHost ours ourDescription boardOf markIn firstOf
-ours-hosts = refl
 
 -- ---- any description
 
@@ -70,6 +60,19 @@ mark-rule d h byte = table-here (markIn d) 0 256 h byte
 pub host-past : (d : Description) (h : ℕ) → 256 ≤ h → boardHost (boardOf d) h ≡ eqb h 0
 unfolding boardHost boardOf
 host-past d h past = ap (λ (n : ℕ). eqb h 0 || not (eqb n 0)) (table-past (markIn d) 0 256 0 h past) ∙ or-false (eqb h 0)
+
+-- "3 and 10 secure; 4, 5, 6, 12, 13 not secure": of all host bytes
+pub ours-secure : tableOf (secureHost ours) 0 256 ≡ tableOf (λ (h : ℕ). eqb h 3 || eqb h 10) 0 256
+unfolding tableOf secureHost ours ourDescription markIn firstOf
+ours-secure =
+    table-below (secureHost ours) (λ (h : ℕ). not (eqb h 0) && eqb (markIn ourDescription h) 2) 256 0
+    (λ h from byte. ap (λ (mark : ℕ). not (eqb h 0) && eqb mark 2) (mark-rule ourDescription h (omega arith)))
+
+pub ours-hosts : tableOf (activeHost ours) 0 256 ≡ tableOf (λ (h : ℕ). anyOf (eqb h) (3 ∷ 10 ∷ 4 ∷ 5 ∷ 6 ∷ 12 ∷ 13 ∷ [])) 0 256
+unfolding tableOf anyOf activeHost ours ourDescription listsHost
+ours-hosts =
+    table-below (activeHost ours) (λ (h : ℕ). not (eqb h 0) && (eqb h 0 || listsHost ourDescription h)) 256 0
+    (λ h from byte. ap (λ (x : Bool). not (eqb h 0) && x) (host-rule ourDescription h (omega arith)))
 
 abbrev Fits : Description → Type 0
 Fits d = length (d .processors) ≤ rows

@@ -20,10 +20,14 @@ sizeIn bytes = u16At bytes 2
 abbrev pub partAt : ℕ → List ℕ → ℕ → List ℕ
 partAt width bytes e = take width (drop (4 + width * e) bytes)
 
+-- the first n parts of so many bytes each
+unfoldable pub partsOf : ℕ → List ℕ → ℕ → List (List ℕ)
+partsOf width bytes zero = []
+partsOf width bytes (suc n) = take width bytes ∷ partsOf width (drop width bytes) n
+
 -- n parts from entry e on
-unfoldable pub partsFrom : ℕ → List ℕ → ℕ → ℕ → List (List ℕ)
-partsFrom width bytes e zero = []
-partsFrom width bytes e (suc n) = partAt width bytes e ∷ partsFrom width bytes (suc e) n
+abbrev pub partsFrom : ℕ → List ℕ → ℕ → ℕ → List (List ℕ)
+partsFrom width bytes e n = partsOf width (drop (4 + width * e) bytes) n
 
 abbrev pub numberIn : List ℕ → ℕ
 numberIn part = byteAt part 0

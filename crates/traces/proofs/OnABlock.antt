@@ -9,7 +9,7 @@ use Rattle.rules.specs.Table.{firstOf, anyOf, placeOf, tableOf}
 use Rattle.rules.specs.Verdict.{accepted}
 use Rattle.rules.specs.Board.{Board, boardHost, activeHost, rowOf, onBoard}
 use Rattle.rules.specs.Description.{ourDescription, listsProcessor, markIn, rowIn, classIn, sharedCluster, sharedIn, homeIn, boardOf, ours}
-use Rattle.rules.specs.Substructure.{partsFrom, namedIn, inTurn}
+use Rattle.rules.specs.Substructure.{partsOf, namedIn, inTurn}
 use Rattle.rules.specs.AccessList.{entryTable, contentTable, listTable, verdictOf}
 use Rattle.rules.specs.Hierarchy.{supervisorOf, meets, onLoop, firstHost, loopHost, pairTable, hierarchyTable, loopReported}
 use Rattle.rules.specs.Block.{otpTable, blockTable, blockVerdict}
@@ -31,7 +31,7 @@ abbrev blocked-memories : Memories
 blocked-memories = record { board = boardBytes ours; access = accessAfterBlock ours (replicate 129 0) 0 1 benchBlock; records = replicate 288 0 }
 
 block-accepted : BlockCall ours (replicate 129 0) 0 1 benchBlock (accessAfterBlock ours (replicate 129 0) 0 1 benchBlock) taken
-unfolding tableOf ours ourDescription listsProcessor markIn rowIn classIn sharedCluster sharedIn homeIn boardOf firstOf anyOf boardHost activeHost placeOf rowOf onBoard partsFrom namedIn entryTable inTurn contentTable supervisorOf meets onLoop firstHost loopHost pairTable hierarchyTable loopReported otpTable blockTable blockVerdict listedIn
+unfolding tableOf ours ourDescription listsProcessor markIn rowIn classIn sharedCluster sharedIn homeIn boardOf firstOf anyOf boardHost activeHost placeOf rowOf onBoard partsOf namedIn entryTable inTurn contentTable supervisorOf meets onLoop firstHost loopHost pairTable hierarchyTable loopReported otpTable blockTable blockVerdict listedIn
 block-accepted = record { verdict = refl; host = refl; memory = refl; state = block-state ours (replicate 129 0) 0 1 benchBlock }
 
 -- the list that is in force is the bench list, and so the theorem for it speaks of these memories too
@@ -51,5 +51,5 @@ block-loaded =
 
 -- the memories are those that the lone list leaves
 pub same-memories : blocked-memories ≡ listed-memories
-unfolding tableOf ours ourDescription listsProcessor markIn rowIn classIn sharedCluster sharedIn homeIn boardOf firstOf anyOf boardHost activeHost placeOf rowOf onBoard partsFrom namedIn entryTable inTurn contentTable listTable verdictOf supervisorOf meets onLoop firstHost loopHost pairTable hierarchyTable otpTable blockTable blockVerdict listedIn accepted accessAfter accessAfterBlock
+unfolding tableOf ours ourDescription listsProcessor markIn rowIn classIn sharedCluster sharedIn homeIn boardOf firstOf anyOf boardHost activeHost placeOf rowOf onBoard partsOf namedIn entryTable inTurn contentTable listTable verdictOf supervisorOf meets onLoop firstHost loopHost pairTable hierarchyTable otpTable blockTable blockVerdict listedIn accepted accessAfter accessAfterBlock
 same-memories = refl

@@ -11,7 +11,7 @@ use Rattle.rules.specs.Table.{firstOf, anyOf, allOf, placeOf, allFrom, tableOf}
 use Rattle.rules.specs.Board.{Board, boardHost, activeHost, rowOf, onBoard, classAt, classOf, homeAt, homeOf, shareControl}
 use Rattle.rules.specs.Description.{ourDescription, listsProcessor, markIn, rowIn, classIn, sharedCluster, sharedIn, homeIn, boardOf, ours}
 use Rattle.rules.specs.Verdict.{accepted}
-use Rattle.rules.specs.Substructure.{partsFrom, namedIn, inTurn}
+use Rattle.rules.specs.Substructure.{partsOf, namedIn, inTurn}
 use Rattle.rules.specs.AccessList.{noEntry, entryTable, contentTable, listTable, verdictOf, entryIn, withPart, withParts, noEntries, entriesOf, hasEntry}
 use Rattle.rules.specs.Role.{namesHost, roleTable, roleOf, permitted}
 use Rattle.rules.specs.Message.{answerAsked, kindOf, waitIn, subjectOf, namesProcessor, isAbout}
@@ -46,7 +46,7 @@ abbrev pub listed-memories : Memories
 listed-memories = record { board = boardBytes ours; access = accessAfter ours (replicate 129 0) benchList; records = replicate 288 0 }
 
 bench-accepted : ListCall ours (replicate 129 0) benchList (accessAfter ours (replicate 129 0) benchList) Accepted
-unfolding tableOf ours ourDescription listsProcessor markIn rowIn classIn sharedCluster sharedIn homeIn boardOf firstOf anyOf boardHost activeHost placeOf rowOf onBoard partsFrom namedIn entryTable inTurn contentTable listTable verdictOf listedIn
+unfolding tableOf ours ourDescription listsProcessor markIn rowIn classIn sharedCluster sharedIn homeIn boardOf firstOf anyOf boardHost activeHost placeOf rowOf onBoard partsOf namedIn entryTable inTurn contentTable listTable verdictOf listedIn
 bench-accepted = record { verdict = refl; memory = refl; state = list-state ours (replicate 129 0) benchList }
 
 pub bench-loaded : Loaded ours benchList listed-memories
@@ -80,7 +80,7 @@ request-step =
 
 bench-answered : MessageCall ours (accessAfter ours (replicate 129 0) benchList) (replicate 288 0) asked heldRecords (header 0x00 0xC0 3 2 ++ replicate 21 0xFF)
     (record { outcome = Ok; checks = 0; micros = 0; written = 8; role = Master })
-unfolding tableOf ours ourDescription listsProcessor markIn rowIn classIn sharedCluster sharedIn homeIn boardOf firstOf anyOf boardHost activeHost placeOf rowOf onBoard classAt classOf homeAt noEntry partsFrom namedIn entryTable inTurn contentTable listTable verdictOf accepted entryIn withPart withParts noEntries entriesOf hasEntry namesHost roleTable roleOf permitted answerAsked kindOf waitIn subjectOf senderWrong wordsMissing waitFailed admission byWords outcomeTable outcomeOf carriedOut silent countsFor oneMore tallyAfter talliesAfter recordAfter ackBytes bytesFor answerBytes answerOf waited tellsRole reportOf listed freeOwn noTallies entryOf recordIn recordOf viewOf putIn stored afterMessage answerTo next listedIn entryAt entriesIn someList setupIn wordsOf accessAfter recordsIn stateIn
+unfolding tableOf ours ourDescription listsProcessor markIn rowIn classIn sharedCluster sharedIn homeIn boardOf firstOf anyOf boardHost activeHost placeOf rowOf onBoard classAt classOf homeAt noEntry partsOf namedIn entryTable inTurn contentTable listTable verdictOf accepted entryIn withPart withParts noEntries entriesOf hasEntry namesHost roleTable roleOf permitted answerAsked kindOf waitIn subjectOf senderWrong wordsMissing waitFailed admission byWords outcomeTable outcomeOf carriedOut silent countsFor oneMore tallyAfter talliesAfter recordAfter ackBytes bytesFor answerBytes answerOf waited tellsRole reportOf listed freeOwn noTallies entryOf recordIn recordOf viewOf putIn stored afterMessage answerTo next listedIn entryAt entriesIn someList setupIn wordsOf accessAfter recordsIn stateIn
 bench-answered = record { report = refl; records = refl; buffer = refl }
 
 pub bench-trace : Trace listed-memories (request-step ∷ [])
@@ -97,15 +97,15 @@ bench-trace =
     ) done
 
 pub on-the-bench : CodeNoninterference ours benchList bothR5
-unfolding allFrom onBoard homeAt homeOf tableOf ours ourDescription listsProcessor markIn rowIn classIn sharedCluster sharedIn homeIn boardOf anyOf allOf placeOf rowOf shareControl partsFrom namedIn clustersWhole
+unfolding allFrom onBoard homeAt homeOf tableOf ours ourDescription listsProcessor markIn rowIn classIn sharedCluster sharedIn homeIn boardOf anyOf allOf placeOf rowOf shareControl partsOf namedIn clustersWhole
 on-the-bench = of-the-code ours benchList bothR5 refl refl
 
 -- and to a list that names the cluster of 32 and 33, chosen whole
 pub on-the-cluster : CodeNoninterference ours clusterList (32 ∷ 33 ∷ [])
-unfolding allFrom onBoard homeAt homeOf tableOf ours ourDescription listsProcessor markIn rowIn classIn sharedCluster sharedIn homeIn boardOf anyOf allOf placeOf rowOf shareControl partsFrom namedIn clustersWhole
+unfolding allFrom onBoard homeAt homeOf tableOf ours ourDescription listsProcessor markIn rowIn classIn sharedCluster sharedIn homeIn boardOf anyOf allOf placeOf rowOf shareControl partsOf namedIn clustersWhole
 on-the-cluster = of-the-code ours clusterList (32 ∷ 33 ∷ []) refl refl
 
 -- document 02, L10: by the theorem of the tallies the code has counted one grant
 pub grant-counted : tallyOf grants (leftIn ours listed-memories (request-step ∷ []) 1) ≡ 1
-unfolding tableOf ours ourDescription listsProcessor markIn rowIn classIn sharedCluster sharedIn homeIn boardOf firstOf anyOf boardHost activeHost placeOf rowOf onBoard classAt classOf homeAt noEntry partsFrom namedIn entryTable inTurn contentTable listTable verdictOf accepted entryIn withPart withParts noEntries entriesOf hasEntry namesHost roleTable roleOf permitted kindOf namesProcessor isAbout subjectOf senderWrong wordsMissing waitFailed admission byWords outcomeTable outcomeOf carriedOut countsFor recordAfter listed freeOwn noTallies fresh entryOf recordIn recordOf viewOf verdictTo taken afterOffer callOf callsOf counts countOf
+unfolding tableOf ours ourDescription listsProcessor markIn rowIn classIn sharedCluster sharedIn homeIn boardOf firstOf anyOf boardHost activeHost placeOf rowOf onBoard classAt classOf homeAt noEntry partsOf namedIn entryTable inTurn contentTable listTable verdictOf accepted entryIn withPart withParts noEntries entriesOf hasEntry namesHost roleTable roleOf permitted kindOf namesProcessor isAbout subjectOf senderWrong wordsMissing waitFailed admission byWords outcomeTable outcomeOf carriedOut countsFor recordAfter listed freeOwn noTallies fresh entryOf recordIn recordOf viewOf verdictTo taken afterOffer callOf callsOf counts countOf
 grant-counted = warranty-of-the-code ours benchList .counted bench-loaded bench-trace grants 1

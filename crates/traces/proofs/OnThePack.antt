@@ -10,7 +10,7 @@ use Rattle.rules.specs.Table.{firstOf, anyOf, allOf, placeOf, allFrom, tableOf}
 use Rattle.rules.specs.Verdict.{accepted}
 use Rattle.rules.specs.Board.{Board, boardHost, activeHost, rowOf, onBoard, homeAt, homeOf, shareControl}
 use Rattle.rules.specs.Description.{nothingListed, bodySize, fieldGood, noItem, itemIn, fieldSize, itemsFrom, itemsIn, listsHost, listsProcessor, repeats, otherClass, isFull, itemTable, withItem, itemsTable, descriptionTable, boardVerdict, withItems, descriptionIn, markIn, rowIn, classIn, sharedCluster, sharedIn, homeIn, shareWord, boardOf, described, ours}
-use Rattle.rules.specs.Substructure.{partsFrom, namedIn, inTurn}
+use Rattle.rules.specs.Substructure.{partsOf, namedIn, inTurn}
 use Rattle.rules.specs.AccessList.{entryTable, contentTable, listTable, verdictOf}
 use Rattle.rules.specs.Boards.{packBytes, packList}
 use Rattle.noninterference.specs.Statement.{clustersWhole}
@@ -46,7 +46,7 @@ pack-back = board-back (descriptionIn packBytes)
 
 -- the list call on its board
 list-taken : ListCall (described packBytes) zeros packList (accessAfter (described packBytes) zeros packList) Accepted
-unfolding firstOf anyOf allOf placeOf tableOf nothingListed bodySize fieldGood noItem itemIn fieldSize itemsFrom itemsIn listsHost listsProcessor repeats otherClass isFull itemTable withItem itemsTable descriptionTable boardVerdict withItems descriptionIn markIn rowIn classIn sharedCluster sharedIn homeIn shareWord boardOf described boardHost activeHost rowOf onBoard partsFrom namedIn entryTable inTurn contentTable listTable verdictOf listedIn
+unfolding firstOf anyOf allOf placeOf tableOf nothingListed bodySize fieldGood noItem itemIn fieldSize itemsFrom itemsIn listsHost listsProcessor repeats otherClass isFull itemTable withItem itemsTable descriptionTable boardVerdict withItems descriptionIn markIn rowIn classIn sharedCluster sharedIn homeIn shareWord boardOf described boardHost activeHost rowOf onBoard partsOf namedIn entryTable inTurn contentTable listTable verdictOf listedIn
 list-taken = record { verdict = refl; memory = refl; state = list-state (described packBytes) zeros packList }
 
 pub pack-loaded : Loaded (described packBytes) packList listed-memories
@@ -65,5 +65,5 @@ pack-loaded =
     }
 
 pub on-the-pack : CodeNoninterference (described packBytes) packList (40 ∷ 41 ∷ 42 ∷ [])
-unfolding firstOf anyOf allOf placeOf tableOf nothingListed bodySize fieldGood noItem itemIn fieldSize itemsFrom itemsIn listsHost listsProcessor repeats otherClass isFull itemTable withItem itemsTable descriptionTable boardVerdict withItems descriptionIn markIn rowIn classIn sharedCluster sharedIn homeIn shareWord boardOf described allFrom rowOf onBoard homeAt homeOf shareControl partsFrom namedIn clustersWhole
+unfolding firstOf anyOf allOf placeOf tableOf nothingListed bodySize fieldGood noItem itemIn fieldSize itemsFrom itemsIn listsHost listsProcessor repeats otherClass isFull itemTable withItem itemsTable descriptionTable boardVerdict withItems descriptionIn markIn rowIn classIn sharedCluster sharedIn homeIn shareWord boardOf described allFrom rowOf onBoard homeAt homeOf shareControl partsOf namedIn clustersWhole
 on-the-pack = of-the-code (described packBytes) packList (40 ∷ 41 ∷ 42 ∷ []) refl refl

@@ -7,7 +7,7 @@ use lib.ListN.{set}
 use native.Mathlib.Omega.{arith}
 use borrow.Author.Needs.{needs}
 use Rattle.rules.specs.Table.{tableOf}
-use Rattle.rules.specs.Substructure.{partsFrom}
+use Rattle.rules.specs.Substructure.{partsOf, partsFrom}
 use Rattle.rules.specs.Hierarchy.{supervisorOf}
 use Rattle.loops.specs.Supervisors.{supervisorsIn}
 use Rattle.loops.proofs.Tables.{none-filled, fill-unused, fill-used}
@@ -21,7 +21,7 @@ abbrev μ-loop : tie.MeasureT-loop
 μ-loop above₀ bytes e₀ above e = e
 
 loop-holds : tie.Need-loop-holds Inv-loop μ-loop
-unfolding partsFrom
+unfolding partsOf
 loop-holds c =
     (omega arith, c .before .pre ∙ none-filled)
 

@@ -4,7 +4,7 @@ use Prim.Native.Nat.{_+_, _*_, _≤_, _-_}
 use mathlib.Core.Path.{_≡_, refl, sym, _∙_}
 use native.Mathlib.Omega.{arith}
 use borrow.Author.Needs.{needs}
-use Rattle.rules.specs.Substructure.{partsFrom}
+use Rattle.rules.specs.Substructure.{partsOf, partsFrom}
 use Rattle.rules.specs.Hierarchy.{pairs, onLoop, firstHost, loopHost}
 use Rattle.loops.proofs.Tables.{on-loop-is, host-found, host-passed}
 use Rattle.loops.proofs.loop_host.Statement.{statement}
@@ -64,7 +64,7 @@ loop-again c =
     )
 
 returns-2 : tie.Need-returns-2 Inv-loop μ-loop
-unfolding partsFrom firstHost
+unfolding partsOf firstHost
 returns-2 c =
     let all : c .before .loop .e ≡ 32 = omega arith in sym (c .before .loop .inv .1 ∙ rw all)
 
