@@ -2,15 +2,15 @@
 .PHONY: demo test quick measure
 
 demo:
-	@scripts/demo
+	@scripts/in-memory scripts/demo
 
 test:
-	@scripts/test
+	@scripts/in-memory scripts/test
 
 # The loop of the daily work: what changed is proved, and the must-fail edits are tried over incremental folders; CRATES='board status'
 # tries those of two crates alone. Not the verdict.
 quick:
-	@scripts/quick $(CRATES)
+	@scripts/in-memory scripts/quick $(CRATES)
 
 # Instructions per message and time of a million messages, beside the second implementation.
 measure:
