@@ -12,7 +12,8 @@ use Rattle.rules.specs.Answer.{bufferAfter}
 use Rattle.rules.proofs.Tests.{decide, clash}
 use Rattle.board.specs.Memory.{boardIn}
 use Rattle.words.specs.Words.{wordsOf}
-use Rattle.recording.specs.Played.{PlayedBlock, PlayedBoard, PlayedList, PlayedMessage}
+use Rattle.offer_lines.specs.Offers.{PlayedBlock, PlayedBoard, PlayedList}
+use Rattle.recording.specs.Played.{PlayedMessage}
 use Rattle.playing.specs.ByTag.{OfferField, PlayedField}
 
 -- ---- an offer by its tag

@@ -6,7 +6,8 @@ use lib.ListN.{length, take}
 use Rattle.rules.specs.Answer.{bufferAfter}
 use Rattle.board.specs.Memory.{boardIn}
 use Rattle.words.specs.Words.{wordsOf}
-use Rattle.recording.specs.Played.{PlayedBlock, PlayedBoard, PlayedList, PlayedMessage}
+use Rattle.offer_lines.specs.Offers.{PlayedBlock, PlayedBoard, PlayedList}
+use Rattle.recording.specs.Played.{PlayedMessage}
 
 -- the status words of a field stand from now on, and nothing is printed
 pub record TakenWords (body words line words′ line′ : List ℕ) (n stand : ℕ) : Type 0 where

@@ -1,8 +1,8 @@
 // Session recordings: a whole field carried out by its tag. The rules are specs/ByTag.antt, over a board
-// description, a list, a block and a message carried out in the crate below.
-use recording::block_line;
-use recording::board_line;
-use recording::list_line;
+// description, a list, a block and a message carried out in the crates below.
+use offer_lines::block_line;
+use offer_lines::board_line;
+use offer_lines::list_line;
 use recording::message_line;
 use words::take_words;
 ghost use Prim.Native.Nat.{_≤_};

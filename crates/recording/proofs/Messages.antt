@@ -1,6 +1,6 @@
--- A field carried out, from what the calls give: with room for a line, and without. Assumes nothing.
+-- A message carried out, from what the calls give: with room for a line, and without. Assumes nothing.
 use Prim.Native.Nat.{ℕ, _≤_, _<_}
-use mathlib.Core.Path.{_≡_, refl, ap, ap₂, _∙_, subst, subst⁻¹}
+use mathlib.Core.Path.{_≡_, refl, ap, ap₂, _∙_, subst⁻¹}
 use mathlib.Core.Bool.{_&&_}
 use mathlib.Core.List.{List}
 use native.Mathlib.Omega.{arith}
@@ -9,7 +9,6 @@ use lib.Seq.{take-append-seam}
 use lib.Dec.{leb}
 use borrow.Author.Tests.{lt-leb, le-leb}
 use Rattle.rules.specs.declared.Report.{Report}
-use Rattle.rules.specs.declared.Verdict.{Verdict}
 use Rattle.rules.specs.Board.{Board}
 use Rattle.rules.specs.Message.{Query}
 use Rattle.rules.specs.Answer.{bufferAfter, reportOf}
@@ -18,10 +17,10 @@ use Rattle.rules.specs.Call.{answerTo, Lent}
 use Rattle.rules.proofs.Tests.{clash}
 use Rattle.manager.specs.Calls.{MessageCall}
 use Rattle.manager.proofs.EachCall.{written-short}
-use Rattle.texts.specs.Texts.{offerLine, hasRoom, printed, Printed}
+use Rattle.texts.specs.Texts.{hasRoom, printed, Printed}
 use Rattle.texts.proofs.Printing.{nothing-printed}
 use Rattle.lines.specs.Lines.{messageLine}
-use Rattle.recording.specs.Played.{PlayedOffer, lentIn, PlayedMessage}
+use Rattle.recording.specs.Played.{lentIn, PlayedMessage}
 
 -- the line of what a message call reports and leaves at the start of its buffer
 line-is : (s : State) (q : Query) (told : Report) (held buffer : List ℕ)
@@ -39,23 +38,6 @@ pub written-few : (b : Board) (access memory : List ℕ) (lent : Lent) (memory�
     → MessageCall b access memory lent memory′ buffer told → told .written ≤ 29
 written-few b access memory lent memory′ buffer told call =
     subst⁻¹ (λ (r : Report). r .written ≤ 29) (call .report) (written-short _ _)
-
-module _ (word : List ℕ) (verdict : Verdict) (host : ℕ) (held after line : List ℕ) where
-  pub offer-refused : length line < 96 → PlayedOffer word verdict host held after line held line 0
-  offer-refused h =
-      let gone = lt-leb 96 (length line) h in
-      record { prints = nothing-printed line _ _ gone; memory = rw gone }
-
-  pub offer-played : (held′ line′ : List ℕ) (told : Verdict) (named n : ℕ) → 96 ≤ length line
-      → told ≡ verdict → named ≡ host → held′ ≡ after
-      → Printed line (printed (hasRoom line) (offerLine word told named)) line′ n
-      → PlayedOffer word verdict host held after line held′ line′ n
-  offer-played held′ line′ told named n h same which left shown =
-      let room = le-leb 96 (length line) h in
-      record {
-        prints = subst (λ (text : List ℕ). Printed line (printed (hasRoom line) text) line′ n) (ap₂ (offerLine word) same which) shown;
-        memory = rw room left;
-      }
 
 module _ (b : Board) (access memory body words line : List ℕ) where
   pub message-refused : length line < 96 → PlayedMessage b access memory body words line memory line 0

@@ -1,2 +1,2 @@
--- A field carried out.
+-- A message carried out.
 pub mod Played

@@ -1,10 +1,10 @@
--- `recording::block_line` meets its contract: the block call, and its line. Assumes nothing.
+-- `offer_lines::block_line` meets its contract: the block call, and its line. Assumes nothing.
 use denote.Ref.{now}
 use Rattle.texts.specs.Texts.{blockWord}
-use Rattle.recording.proofs.Messages.{offer-refused, offer-played}
+use Rattle.offer_lines.proofs.Offers.{offer-refused, offer-played}
 use borrow.Author.Needs.{needs}
-use Rattle.recording.proofs.block_line.Statement.{statement}
-use Rattle.recording.proofs.block_line.Tie as tie
+use Rattle.offer_lines.proofs.block_line.Statement.{statement}
+use Rattle.offer_lines.proofs.block_line.Tie as tie
 
 returns : tie.Need-returns
 returns c = offer-refused _ _ _ _ _ _ (c .if1 .taken)

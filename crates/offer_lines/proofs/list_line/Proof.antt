@@ -1,11 +1,11 @@
--- `recording::list_line` meets its contract: the list call, and its line. Assumes nothing.
+-- `offer_lines::list_line` meets its contract: the list call, and its line. Assumes nothing.
 use mathlib.Core.Path.{refl}
 use denote.Ref.{now}
 use Rattle.texts.specs.Texts.{listWord}
-use Rattle.recording.proofs.Messages.{offer-refused, offer-played}
+use Rattle.offer_lines.proofs.Offers.{offer-refused, offer-played}
 use borrow.Author.Needs.{needs}
-use Rattle.recording.proofs.list_line.Statement.{statement}
-use Rattle.recording.proofs.list_line.Tie as tie
+use Rattle.offer_lines.proofs.list_line.Statement.{statement}
+use Rattle.offer_lines.proofs.list_line.Tie as tie
 
 returns : tie.Need-returns
 returns c = offer-refused _ _ _ _ _ _ (c .if1 .taken)

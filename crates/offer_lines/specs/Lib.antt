@@ -1,0 +1,2 @@
+-- An offer carried out.
+pub mod Offers
