@@ -1,5 +1,5 @@
 -- How a whole field is carried out, by its tag. Assumes nothing.
-use Prim.Native.Nat.{ℕ, _≤_}
+use Prim.Native.Nat.{ℕ}
 use mathlib.Core.Path.{_≡_}
 use mathlib.Core.List.{List}
 use lib.ListN.{length, take}
@@ -15,16 +15,6 @@ pub record TakenWords (body words line words′ line′ : List ℕ) (n stand : �
   pub memory : words′ ≡ bufferAfter (take 255 (wordsOf body)) words
   pub silent : n ≡ 0
   pub kept : line′ ≡ line
-
--- an offer: tag 1 is a list, 4 a block, any other a board description
-pub record OfferField (tag : ℕ) (body board access line board′ access′ line′ : List ℕ) (n : ℕ) : Type 0 where
-  pub list : tag ≡ 1 → PlayedList (boardIn board) access body line access′ line′ n
-  pub block : tag ≡ 4 → PlayedBlock (boardIn board) access body line access′ line′ n
-  pub description : (tag ≡ 1 → ⊥) → (tag ≡ 4 → ⊥) → PlayedBoard board access body line board′ line′ n
-  pub list-keeps : tag ≡ 1 → board′ ≡ board
-  pub block-keeps : tag ≡ 4 → board′ ≡ board
-  pub access-kept : (tag ≡ 1 → ⊥) → (tag ≡ 4 → ⊥) → access′ ≡ access
-  pub short : n ≤ 96
 
 -- tag 1 is a list, 2 status words, 4 a block, 6 a board description, any other a message with the words that stand; what a tag does not concern is
 -- kept

@@ -1,36 +1,15 @@
-// Session recordings: a whole field carried out by its tag. The rules are specs/ByTag.antt, over a board
-// description, a list, a block and a message carried out in the crates below.
-use offer_lines::block_line;
-use offer_lines::board_line;
-use offer_lines::list_line;
+// Session recordings: a whole field carried out by its tag. The rules are specs/ByTag.antt, over an offer, a
+// message and status words carried out in the crates below.
+use offer_fields::play_offer;
 use recording::message_line;
 use words::take_words;
 ghost use Prim.Native.Nat.{_≤_};
-ghost use Rattle.playing.specs.ByTag.{OfferField, PlayedField};
+ghost use Rattle.playing.specs.ByTag.{PlayedField};
 
 // What a field leaves: the length of the line it printed, and how many status words stand.
 pub struct Played {
     pub line: usize,
     pub words: u8,
-}
-
-// Carries out an offer by its tag, and writes its line: 1 a list, 4 a block, any other a board description.
-fn play_offer(
-    board: &mut [u8; 576],
-    access: &mut [u16; 129],
-    tag: u8,
-    body: &[u8],
-    line: &mut [u8],
-) -> usize
-    ensures { λ r. ⌜ OfferField tag (now (body .entry)) (now (board .entry)) (now (access .entry)) (now (line .entry)) (now (board .exit)) (now (access .exit)) (now (line .exit)) r ⌝ }
-{
-    if tag == 1 {
-        return list_line(board, access, body, line);
-    }
-    if tag == 4 {
-        return block_line(board, access, body, line);
-    }
-    board_line(board, access, body, line)
 }
 
 // Carries out a whole field, and writes the line that it prints, if any, over the start of `line`.

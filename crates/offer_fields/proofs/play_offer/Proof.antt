@@ -1,9 +1,9 @@
--- `playing::play_offer` meets its contract: each tag has its call, and no more. Assumes nothing.
+-- `offer_fields::play_offer` meets its contract: each tag has its call, and no more. Assumes nothing.
 use denote.Ref.{now}
-use Rattle.playing.proofs.ByTag.{list-offer, block-offer, board-offer}
+use Rattle.offer_fields.proofs.Offers.{list-offer, block-offer, board-offer}
 use borrow.Author.Needs.{needs}
-use Rattle.playing.proofs.play_offer.Statement.{statement}
-use Rattle.playing.proofs.play_offer.Tie as tie
+use Rattle.offer_fields.proofs.play_offer.Statement.{statement}
+use Rattle.offer_fields.proofs.play_offer.Tie as tie
 
 list-line-requires : tie.Need-list-line-requires
 list-line-requires c κs = search needs

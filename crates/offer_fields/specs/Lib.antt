@@ -1,0 +1,2 @@
+-- An offer by its tag.
+pub mod Offers
