@@ -10,8 +10,8 @@ use board::class_at;
 use effects::with_config;
 use operands::config_good;
 use operations::row_in;
+use record_stores::store_own;
 use records::load;
-use records::store_own;
 use rights::is_controller;
 use rules::Outcome;
 

@@ -10,8 +10,8 @@ use board::class_at;
 use effects::with_control;
 use operands::control_good;
 use operations::row_in;
+use record_stores::store_control;
 use records::load;
-use records::store_control;
 use rights::is_controller;
 use rules::Outcome;
 

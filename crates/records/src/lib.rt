@@ -1,20 +1,18 @@
-// The processors' records: one record by value, out of the lent record memory and back into it, the
-// control word apart from what is the processor's own. Its layout is specs/Memory.antt; any content of
-// it is a state.
+// The processors' records: one record by value, out of the lent record memory. Its layout is
+// specs/Memory.antt; any content of it is a state. What puts a record back is in crate record_stores.
 ghost use Prim.Native.Nat.{_<_};
 ghost use mathlib.Core.Path.{_≡_};
 ghost use lib.ListN.{getD};
 ghost use Rattle.rules.specs.Board.{homeAt};
-ghost use Rattle.rules.specs.State.{ownOf};
 ghost use Rattle.board.specs.Memory.{boardIn};
-ghost use Rattle.records.specs.Memory.{ownAt, controlPlace, recordAt, withOwn, withControlWord};
+ghost use Rattle.records.specs.Memory.{ownAt, controlPlace, recordAt};
 use board::ROWS;
 use board::home_at;
 use rules::Record;
 use rules::Tallies;
 
 // The place of the control word of the processor at `row`: at its home, which its cluster shares.
-fn control_place(board: &[u8; 576], row: u8) -> usize
+pub fn control_place(board: &[u8; 576], row: u8) -> usize
     ensures { λ r. ⌜ (r ≡ controlPlace (homeAt (boardIn (now (board .entry))) row)) × (r < 288) ⌝ }
 {
     256 + home_at(board, row) as usize
@@ -72,28 +70,4 @@ pub fn load(board: &[u8; 576], records: &[u32], row: u8) -> Record
             releases: 0,
         },
     }
-}
-
-// Puts all of a record but its control word at `row`. A row that is not there is left alone.
-pub fn store_own(records: &mut [u32; 288], row: u8, state: Record)
-    ensures { λ _. ⌜ now (records .exit) ≡ withOwn (now (records .entry)) row (ownOf state) ⌝ }
-{
-    if row < ROWS {
-        let at = 8 * (row as usize);
-        records[at] = state.controller;
-        records[at + 1] = state.low;
-        records[at + 2] = state.high;
-        records[at + 3] = state.config;
-        records[at + 4] = state.tallies.grants;
-        records[at + 5] = state.tallies.overrides;
-        records[at + 6] = state.tallies.handovers;
-        records[at + 7] = state.tallies.releases;
-    }
-}
-
-// Puts the control word of the processor at `row`, and so of its cluster, at the home.
-pub fn store_control(board: &[u8; 576], records: &mut [u32; 288], row: u8, control: u32)
-    ensures { λ _. ⌜ now (records .exit) ≡ withControlWord (now (records .entry)) (homeAt (boardIn (now (board .entry))) row) control ⌝ }
-{
-    records[control_place(board, row)] = control;
 }

@@ -1,10 +1,10 @@
--- `records::store_own` meets its contract. Assumes nothing.
+-- `record_stores::store_own` meets its contract. Assumes nothing.
 use native.Mathlib.Numerals.{towards-suc}
 use borrow.Author.Tests.{lt-ltb, le-ltb}
 use Rattle.records.specs.Memory.{withOwn}
 use borrow.Author.Needs.{needs}
-use Rattle.records.proofs.store_own.Statement.{statement}
-use Rattle.records.proofs.store_own.Tie as tie
+use Rattle.record_stores.proofs.store_own.Statement.{statement}
+use Rattle.record_stores.proofs.store_own.Tie as tie
 
 mul-at : tie.Need-mul-at
 mul-at c = search needs

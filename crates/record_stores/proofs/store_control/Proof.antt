@@ -1,7 +1,7 @@
--- `records::store_control` meets its contract: the word is put at the home that was found. Assumes nothing.
+-- `record_stores::store_control` meets its contract: the word is put at the home that was found. Assumes nothing.
 use borrow.Author.Needs.{needs}
-use Rattle.records.proofs.store_control.Statement.{statement}
-use Rattle.records.proofs.store_control.Tie as tie
+use Rattle.record_stores.proofs.store_control.Statement.{statement}
+use Rattle.record_stores.proofs.store_control.Tie as tie
 
 control-place-requires : tie.Need-control-place-requires
 control-place-requires c κs = search needs
