@@ -5,8 +5,9 @@ use mathlib.Core.List.{List}
 use lib.ListN.{length}
 use borrow.Author.Tests.{lt-leb, le-leb}
 use Rattle.rules.specs.declared.Verdict.{Verdict}
-use Rattle.texts.specs.Texts.{offerLine, hasRoom, printed, Printed}
+use Rattle.texts.specs.Texts.{hasRoom, printed, Printed}
 use Rattle.texts.proofs.Printing.{nothing-printed}
+use Rattle.offer_texts.specs.Offers.{offerLine}
 use Rattle.offer_lines.specs.Offers.{PlayedOffer}
 
 module _ (word : List ℕ) (verdict : Verdict) (host : ℕ) (held after line : List ℕ) where

@@ -12,7 +12,8 @@ use Rattle.rules.specs.Block.{blockVerdict, reportedHost}
 use Rattle.access.specs.Memory.{listedIn}
 use Rattle.boards.specs.Filled.{boardAfter}
 use Rattle.loading.specs.Loaded.{accessAfter, accessAfterBlock}
-use Rattle.texts.specs.Texts.{offerLine, listWord, blockWord, boardWord, hasRoom, printed, Printed}
+use Rattle.texts.specs.Texts.{hasRoom, printed, Printed}
+use Rattle.offer_texts.specs.Offers.{offerLine, listWord, blockWord, boardWord}
 
 -- an offer: its line begins with a word, and what the memory holds that it may change is `after`. With B8 the line has the host
 pub record PlayedOffer (word : List ℕ) (verdict : Verdict) (host : ℕ) (held after line held′ line′ : List ℕ) (n : ℕ) : Type 0 where

@@ -5,10 +5,10 @@ ghost use Rattle.offer_lines.specs.Offers.{PlayedBlock, PlayedBoard, Pla
 use manager::offer_block;
 use manager::offer_board;
 use manager::offer_list;
+use offer_texts::print_block;
+use offer_texts::print_board;
+use offer_texts::print_list;
 use texts::ROOM;
-use texts::print_block;
-use texts::print_board;
-use texts::print_list;
 
 // Carries out a board field, and writes its line over the start of `line`. Gives the line's length.
 // Where there is no room for a line, nothing is carried out.

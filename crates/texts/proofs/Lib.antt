@@ -1,2 +1,2 @@
--- What the proofs of this crate share.
+-- What the proofs of the crates above this one share.
 pub mod Printing

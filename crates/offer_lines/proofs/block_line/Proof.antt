@@ -1,6 +1,6 @@
 -- `offer_lines::block_line` meets its contract: the block call, and its line. Assumes nothing.
 use denote.Ref.{now}
-use Rattle.texts.specs.Texts.{blockWord}
+use Rattle.offer_texts.specs.Offers.{blockWord}
 use Rattle.offer_lines.proofs.Offers.{offer-refused, offer-played}
 use borrow.Author.Needs.{needs}
 use Rattle.offer_lines.proofs.block_line.Statement.{statement}

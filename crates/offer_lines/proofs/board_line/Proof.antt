@@ -1,7 +1,7 @@
 -- `offer_lines::board_line` meets its contract: the board call, and its line. Assumes nothing.
 use mathlib.Core.Path.{refl}
 use denote.Ref.{now}
-use Rattle.texts.specs.Texts.{boardWord}
+use Rattle.offer_texts.specs.Offers.{boardWord}
 use Rattle.offer_lines.proofs.Offers.{offer-refused, offer-played}
 use borrow.Author.Needs.{needs}
 use Rattle.offer_lines.proofs.board_line.Statement.{statement}

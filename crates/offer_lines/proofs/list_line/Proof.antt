@@ -1,7 +1,7 @@
 -- `offer_lines::list_line` meets its contract: the list call, and its line. Assumes nothing.
 use mathlib.Core.Path.{refl}
 use denote.Ref.{now}
-use Rattle.texts.specs.Texts.{listWord}
+use Rattle.offer_texts.specs.Offers.{listWord}
 use Rattle.offer_lines.proofs.Offers.{offer-refused, offer-played}
 use borrow.Author.Needs.{needs}
 use Rattle.offer_lines.proofs.list_line.Statement.{statement}

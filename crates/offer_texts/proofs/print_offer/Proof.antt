@@ -1,4 +1,4 @@
--- `texts::print_offer` meets its contract: the word, and the verdict's text behind it, or nothing. Assumes nothing.
+-- `offer_texts::print_offer` meets its contract: the word, and the verdict's text behind it, or nothing. Assumes nothing.
 use Prim.Native.Nat.{_≤_}
 use mathlib.Core.Path.{_≡_, sym}
 use native.Mathlib.Omega.{arith}
@@ -9,11 +9,13 @@ use denote.Ref.{now}
 use Rattle.rules.specs.Verdict.{verdictNumber}
 use Rattle.verdicts.specs.Names.{verdictLine}
 use Rattle.verdicts.proofs.Lines.{text-short, text-is}
-use Rattle.texts.specs.Texts.{offerLine, hasRoom}
-use Rattle.texts.proofs.Printing.{nothing-printed, put-count, put-over, offer-printed}
+use Rattle.texts.specs.Texts.{hasRoom}
+use Rattle.texts.proofs.Printing.{nothing-printed}
+use Rattle.offer_texts.specs.Offers.{offerLine}
+use Rattle.offer_texts.proofs.Offers.{put-count, put-over, offer-printed}
 use borrow.Author.Needs.{needs}
-use Rattle.texts.proofs.print_offer.Statement.{statement}
-use Rattle.texts.proofs.print_offer.Tie as tie
+use Rattle.offer_texts.proofs.print_offer.Statement.{statement}
+use Rattle.offer_texts.proofs.print_offer.Tie as tie
 
 returns : tie.Need-returns
 returns c =

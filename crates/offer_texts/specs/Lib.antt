@@ -1,0 +1,2 @@
+-- The texts of offers.
+pub mod Offers
