@@ -1,8 +1,6 @@
 -- What the proofs of this crate and of those above it share.
 pub mod Lists
 pub mod Stores
-pub mod Cleared
 pub mod Steps
 pub mod Rows
 pub mod Fills
-pub mod Started

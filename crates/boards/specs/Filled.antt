@@ -1,14 +1,13 @@
 -- The board memory after a description is offered (document 02, L8: "taken whole, replacing the board before it"), and the steps by
 -- which it is filled item by item. Assumes nothing.
-use Prim.Native.Nat.{ℕ, _+_, _-_, _≤_}
+use Prim.Native.Nat.{ℕ, _+_, _≤_}
 use mathlib.Core.Path.{_≡_}
 use mathlib.Core.Bool.{Bool, cond, not, _&&_}
 use mathlib.Core.List.{List}
 use lib.ListN.{length, set}
-use lib.Dec.{eqb, ltb}
+use lib.Dec.{eqb}
 use Rattle.rules.specs.declared.Item.{Item}
 use Rattle.rules.specs.Verdict.{accepted}
-use Rattle.rules.specs.Board.{rows}
 use Rattle.rules.specs.Description.{Description, isHost, itemProcessor, withItem, boardVerdict, sharedCluster, homeIn, described}
 use Rattle.items.specs.Cursor.{cursorAt, listedBefore}
 use Rattle.board.specs.Memory.{boardBytes, placesPlace, classesPlace, homesPlace}
@@ -18,11 +17,6 @@ unfoldable pub boardAfter : List ℕ → Bool → List ℕ → List ℕ
 boardAfter m listed bytes = cond (accepted (boardVerdict listed bytes)) (boardBytes (described bytes)) m
 
 -- ---- the steps
-
--- the byte at place i where nothing is listed
-unfoldable pub clearByte : ℕ → ℕ
-clearByte i =
-    cond (ltb i placesPlace) 0 (cond (ltb i classesPlace) rows (cond (ltb i homesPlace) 0 (i - homesPlace)))
 
 -- an item is a processor that has the control word of cluster c
 unfoldable pub sharesWord : Item → ℕ → Bool

@@ -1,15 +1,17 @@
 // The board in force: the one that a description leaves, put into the lent board memory item by
-// item. The description is judged first, so a refused one writes nothing; at the start the memory
-// gets document 01's board.
+// item. The description is judged first, so a refused one writes nothing.
 ghost use mathlib.Core.Path.{_≡_};
 ghost use mathlib.Core.Bool.{false};
 ghost use Prim.Native.Nat.{_≤_, _<_};
 ghost use Rattle.rules.specs.declared.Verdict.the-variants.{Accepted};
-ghost use Rattle.rules.specs.Description.{nothingListed, isHost, withItem, sharedCluster, homeIn, boardOf, boardVerdict, described, ours, itemProcessor};
+ghost use Rattle.rules.specs.Description.{isHost, withItem, sharedCluster, homeIn, boardVerdict, described, itemProcessor};
 ghost use Rattle.board.specs.Memory.{boardBytes};
 ghost use Rattle.items.specs.Cursor.{listedBefore};
-ghost use Rattle.boards.specs.Filled.{Behind, boardAfter, clearByte, sharesWord, rowAfter, putItem};
-use board::ROWS;
+ghost use Rattle.boards.specs.Filled.{Behind, boardAfter, sharesWord, rowAfter, putItem};
+use clearing::CLASSES;
+use clearing::HOMES;
+use clearing::PLACES;
+use clearing::clear;
 use descriptions::judge;
 use items::HOST;
 use items::field_size;
@@ -17,59 +19,8 @@ use items::item_at;
 use rules::Item;
 use rules::Verdict;
 
-// Where the tables of the memory begin; that of the hosts is the first.
-const PLACES: usize = 256;
-
-const CLASSES: usize = 512;
-
-const HOMES: usize = 544;
-
 // The class whose clusters share a control word.
 const ARMV8: u8 = 1;
-
-// Document 01's board: hosts 3 and 10 secure, 4, 5, 6, 12 and 13 not; the R5 processors 1 and 2,
-// each alone, and the ARMv8 processors 32 and 33, one cluster.
-const OURS: [u8; 59] = *b"\x01\x02\x00\x03\x01\
-    \x01\x02\x00\x0a\x01\
-    \x01\x02\x00\x04\x00\
-    \x01\x02\x00\x05\x00\
-    \x01\x02\x00\x06\x00\
-    \x01\x02\x00\x0c\x00\
-    \x01\x02\x00\x0d\x00\
-    \x02\x03\x00\x01\x00\x00\
-    \x02\x03\x00\x02\x00\x00\
-    \x02\x03\x00\x20\x01\x01\
-    \x02\x03\x00\x21\x01\x01";
-
-// The byte at place `i` of the memory of a board with nothing listed: no host, no processor, and
-// each row its own home.
-fn clear_byte(i: usize) -> u8
-    requires { ⌜ i < 576 ⌝ }
-    ensures { λ r. ⌜ r ≡ clearByte i ⌝ }
-{
-    if i < PLACES {
-        return 0;
-    }
-    if i < CLASSES {
-        return ROWS;
-    }
-    if i < HOMES {
-        return 0;
-    }
-    (i - HOMES) as u8
-}
-
-// Takes everything off the board, whatever the memory held.
-fn clear(board: &mut [u8; 576])
-    ensures { λ _. ⌜ now (board .exit) ≡ boardBytes (boardOf nothingListed) ⌝ }
-{
-    let memory = &mut board[..];
-    let mut i = 0;
-    while i < 576 {
-        memory[i] = clear_byte(i);
-        i += 1;
-    }
-}
 
 // The cluster whose control word an item's processor has, or 0 for one that has its own.
 fn shared_cluster(item: Item) -> u8
@@ -160,13 +111,6 @@ fn fill(board: &mut [u8; 576], description: &[u8])
         at += field_size(item);
         count += 1;
     }
-}
-
-// Puts document 01's board into the memory, whatever that held. It stands until a board is taken.
-pub fn start(board: &mut [u8; 576])
-    ensures { λ _. ⌜ now (board .exit) ≡ boardBytes ours ⌝ }
-{
-    fill(board, &OURS);
 }
 
 // The board call: judges first, and on a refusal writes nothing. `listed` says whether a list or a

@@ -24,7 +24,7 @@ use screening::admit;
 pub fn start(board: &mut [u8; 576])
     ensures { λ _. ⌜ now (board .exit) ≡ boardBytes ours ⌝ }
 {
-    boards::start(board)
+    starting::start(board)
 }
 
 // Offers a board description. Before a list or a block is accepted a good one is taken, and its board

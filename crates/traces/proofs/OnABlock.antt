@@ -18,7 +18,7 @@ use Rattle.rules.specs.Blocks.{benchBlock}
 use Rattle.access.specs.Memory.{listedIn}
 use Rattle.loading.specs.Loaded.{accessAfter, accessAfterBlock}
 use Rattle.board.specs.Memory.{boardBytes}
-use Rattle.boards.proofs.Started.{start-read}
+use Rattle.starting.proofs.Started.{start-read}
 use Rattle.manager.specs.Calls.{BlockCall}
 use Rattle.manager.proofs.EachCall.{block-state}
 use Rattle.traces.specs.Trace.{Memories, started, blockStep, beforeOf, afterOf, Meets, done, step, Loads, Loaded}

@@ -29,7 +29,7 @@ use Rattle.access.specs.Memory.{listedIn, entryAt, entriesIn, someList, setupIn
 use Rattle.loading.specs.Loaded.{wordsOf, accessAfter}
 use Rattle.records.specs.Memory.{recordsIn, stateIn}
 use Rattle.board.specs.Memory.{boardBytes}
-use Rattle.boards.proofs.Started.{start-read}
+use Rattle.starting.proofs.Started.{start-read}
 use Rattle.manager.specs.Calls.{lending, ListCall, MessageCall}
 use Rattle.manager.proofs.EachCall.{list-state}
 use Rattle.traces.specs.Trace.{Memories, started, Step, listStep, messageStep, beforeOf, afterOf, callOf, Meets, Trace, done, step, callsOf, Loads, Loaded}

@@ -26,7 +26,7 @@ use Rattle.rules.proofs.Sound.{offer-kept as kept-by-offer, first-accepted, blo
 use Rattle.noninterference.specs.Statement.{clustersWhole, loads, listOf, answers, Noninterference, boardLeft}
 use Rattle.noninterference.proofs.Theorem.{loaded-on, listed-clusters, named-all, no-trace}
 use Rattle.board.specs.Memory.{boardIn}
-use Rattle.boards.proofs.Started.{start-read}
+use Rattle.starting.proofs.Started.{start-read}
 use Rattle.access.specs.Memory.{someList, setupIn, keptSetup}
 use Rattle.loading.proofs.Offers.{verdict-told, block-told}
 use Rattle.records.specs.Memory.{recordAt, recordsIn, stateIn, kept}

@@ -1,4 +1,4 @@
--- `boards::clear` meets its contract. The loop's invariant: the first i bytes are those of a board with nothing listed. Assumes nothing.
+-- `clearing::clear` meets its contract. The loop's invariant: the first i bytes are those of a board with nothing listed. Assumes nothing.
 use Prim.Native.Nat.{ℕ, _-_, _≤_}
 use mathlib.Core.Path.{_≡_, refl, ap, _∙_}
 use mathlib.Core.List.{List, _++_}
@@ -6,9 +6,9 @@ use native.Mathlib.Omega.{arith}
 use borrow.Author.Needs.{needs}
 use denote.Ref.{now}
 use lib.ListN.{length, set, take, drop, length-set}
-use Rattle.boards.proofs.Cleared.{clearBytes, clear-next, clear-all}
-use Rattle.boards.proofs.clear.Statement.{statement}
-use Rattle.boards.proofs.clear.Tie as tie
+use Rattle.clearing.proofs.Cleared.{clearBytes, clear-next, clear-all}
+use Rattle.clearing.proofs.clear.Statement.{statement}
+use Rattle.clearing.proofs.clear.Tie as tie
 
 abbrev Inv-loop : tie.InvT-loop
 Inv-loop memory₀ i₀ memory i =

@@ -13,7 +13,7 @@ use Rattle.rules.specs.Table.{firstOf, anyOf, placeOf, allFrom, tableOf}
 use Rattle.rules.specs.Description.{nothingListed, listsProcessor, markIn, rowIn, classIn, sharedIn, homeIn, boardOf}
 use Rattle.rules.proofs.Tests.{allFrom-gives}
 use Rattle.board.specs.Memory.{boardBytes}
-use Rattle.boards.specs.Filled.{clearByte}
+use Rattle.clearing.specs.Cleared.{clearByte}
 
 -- the bytes of a board with nothing listed
 abbrev pub clearBytes : List ℕ

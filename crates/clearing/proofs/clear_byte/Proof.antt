@@ -1,9 +1,9 @@
--- `boards::clear_byte` meets its contract: each return is a table of the memory. Assumes nothing.
+-- `clearing::clear_byte` meets its contract: each return is a table of the memory. Assumes nothing.
 use borrow.Author.Needs.{needs}
 use borrow.Author.Tests.{lt-ltb, le-ltb}
-use Rattle.boards.specs.Filled.{clearByte}
-use Rattle.boards.proofs.clear_byte.Statement.{statement}
-use Rattle.boards.proofs.clear_byte.Tie as tie
+use Rattle.clearing.specs.Cleared.{clearByte}
+use Rattle.clearing.proofs.clear_byte.Statement.{statement}
+use Rattle.clearing.proofs.clear_byte.Tie as tie
 
 returns : tie.Need-returns
 unfolding clearByte

@@ -1,0 +1,2 @@
+-- The bytes of the cleared board memory.
+pub mod Cleared

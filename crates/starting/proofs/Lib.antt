@@ -1,0 +1,2 @@
+-- What the crates above this one cite.
+pub mod Started
