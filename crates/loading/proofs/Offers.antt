@@ -16,8 +16,9 @@ use Rattle.rules.proofs.Blocks.{good-block}
 use Rattle.rules.proofs.Tests.{decide, cond-true, cond-false}
 use Rattle.access.specs.Memory.{listedIn, entriesIn, someList, setupIn, keptSetup}
 use Rattle.access.proofs.Kept.{listed-some}
-use Rattle.loading.specs.Loaded.{inForce, accessAfter, accessAfterBlock}
-use Rattle.loading.proofs.Words.{words-read}
+use Rattle.access_stores.specs.InForce.{inForce}
+use Rattle.access_stores.proofs.Words.{words-read}
+use Rattle.loading.specs.Loaded.{accessAfter, accessAfterBlock}
 
 -- the set-up after an offer of a list, alone or in a block, of a state with this memory
 module _ (b : Board) (m : List ℕ) (records : Records) where

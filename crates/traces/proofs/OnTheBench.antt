@@ -26,7 +26,8 @@ use Rattle.rules.specs.Bench.{benchList, header}
 use Rattle.rules.specs.Cluster.{clusterList}
 use Rattle.noninterference.specs.Statement.{clustersWhole}
 use Rattle.access.specs.Memory.{listedIn, entryAt, entriesIn, someList, setupIn}
-use Rattle.loading.specs.Loaded.{wordsOf, accessAfter}
+use Rattle.access_stores.specs.InForce.{wordsOf}
+use Rattle.loading.specs.Loaded.{accessAfter}
 use Rattle.records.specs.Memory.{recordsIn, stateIn}
 use Rattle.board.specs.Memory.{boardBytes}
 use Rattle.starting.proofs.Started.{start-read}

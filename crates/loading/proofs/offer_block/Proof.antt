@@ -7,8 +7,10 @@ use Rattle.rules.proofs.Verdicts.{no-fault}
 use Rattle.rules.proofs.Blocks.{list-length}
 use Rattle.board.specs.Memory.{boardIn}
 use Rattle.blocks.proofs.Tables.{accepted-size}
-use Rattle.loading.specs.Loaded.{inForce, accessAfterBlock}
-use Rattle.loading.proofs.Words.{refused, taken, verdict-read}
+use Rattle.access_stores.specs.InForce.{inForce}
+use Rattle.access_stores.proofs.Words.{loaded}
+use Rattle.loading.specs.Loaded.{accessAfterBlock}
+use Rattle.loading.proofs.Verdicts.{refused, taken, verdict-read}
 use borrow.Author.Needs.{needs}
 use Rattle.loading.proofs.offer_block.Statement.{statement}
 use Rattle.loading.proofs.offer_block.Tie as tie
@@ -46,29 +48,29 @@ part-load-start c = search needs
 
 part-load-end : tie.Need-part-load-end
 part-load-end c =
-    let given = c .before .before .before .before .before .before .before .args in
-    let size = accepted-size _ _ (given .major) (given .minor) (given .block .now) (c .before .before .judge .ensures .0) (c .enum-told .given .1) in omega arith
+    let given = c .before .before .before .before .before .before .before .before .args in
+    let size = accepted-size _ _ (given .major) (given .minor) (given .block .now) (c .before .before .before .judge .ensures .0) (c .before .enum-told .given .1) in omega arith
 
 load-requires : tie.Need-load-requires
-load-requires c κs =
-    let given = c .before .before .before .before .before .before .before .before .args in
-    let size = accepted-size _ _ (given .major) (given .minor) (given .block .now) (c .before .before .before .judge .ensures .0) (c .before .enum-told .given .1) in
-    (search needs, list-length (given .block .now) size)
+load-requires c κs = search needs
 
 returns-2 : tie.Need-returns-2
 unfolding accessAfterBlock
 returns-2 c =
-    let given = c .before .before .before .before .before .before .before .before .before .args in
+    let given = c .before .before .before .before .before .before .before .before .before .before .args in
     let m = given .access .now in
-    let judged = c .before .before .before .before .judge .ensures in
+    let judged = c .before .before .before .before .before .judge .ensures in
+    let good = c .before .before .before .enum-told .given .1 in
+    let size = accepted-size _ _ (given .major) (given .minor) (given .block .now) (judged .0) good in
     let told =
     verdict-read (λ (x : Bool). blockVerdict (boardIn (given .board .now)) x (given .major) (given .minor) (given .block .now)) m
-    (judged .0) (c .before .before .before .before .before .is-listed .ensures)
+    (judged .0) (c .before .before .before .before .before .before .is-listed .ensures)
     in (
       told,
       (
         judged .1,
-        c .load .ensures ∙ taken (inForce (boardIn (given .board .now)) (listPart (given .block .now))) m told (c .before .before .enum-told .given .1),
+        c .load .ensures ∙ loaded _ m (listPart (given .block .now)) (list-length (given .block .now) size)
+            ∙ taken (inForce (boardIn (given .board .now)) (listPart (given .block .now))) m told good,
       ),
     )
 

@@ -2,9 +2,11 @@
 use mathlib.Core.Path.{sym, _∙_}
 use mathlib.Core.Bool.{Bool}
 use Rattle.rules.specs.AccessList.{verdictOf}
-use Rattle.loading.specs.Loaded.{inForce, accessAfter}
+use Rattle.access_stores.specs.InForce.{inForce}
+use Rattle.access_stores.proofs.Words.{loaded}
+use Rattle.loading.specs.Loaded.{accessAfter}
 use Rattle.board.specs.Memory.{boardIn}
-use Rattle.loading.proofs.Words.{refused, taken, verdict-read}
+use Rattle.loading.proofs.Verdicts.{refused, taken, verdict-read}
 use Rattle.rules.proofs.Verdicts.{no-fault}
 use Rattle.lists.proofs.Verdicts.{accepted-length}
 use borrow.Author.Needs.{needs}
@@ -29,20 +31,22 @@ returns c =
     (told, refused (inForce (boardIn (given .board .now)) (given .list .now)) m told (λ good. no-fault (rw good at (c .match .keys2))))
 
 load-requires : tie.Need-load-requires
-load-requires c κs =
-    let list = c .before .before .before .before .before .before .before .args .list .now in
-    (search needs, accepted-length _ _ list (c .before .before .judge .ensures) (c .enum-told .given .1))
+load-requires c κs = search needs
 
 returns-2 : tie.Need-returns-2
 unfolding accessAfter
 returns-2 c =
-    let given = c .before .before .before .before .before .before .before .before .args in
+    let given = c .before .before .before .before .before .before .before .before .before .args in
     let m = given .access .now in
-    let good = c .before .enum-told .given .1 in
+    let judged = c .before .before .before .before .judge .ensures in
+    let good = c .before .before .enum-told .given .1 in
     let told =
-    verdict-read (λ (x : Bool). verdictOf (boardIn (given .board .now)) x (given .list .now)) m (c .before .before .before .judge .ensures) (c .before .before .before .before .is-listed .ensures)
-    in
-    (sym good ∙ told, c .load .ensures ∙ taken (inForce (boardIn (given .board .now)) (given .list .now)) m told good)
+    verdict-read (λ (x : Bool). verdictOf (boardIn (given .board .now)) x (given .list .now)) m judged (c .before .before .before .before .before .is-listed .ensures)
+    in (
+      sym good ∙ told,
+      c .load .ensures ∙ loaded _ m (given .list .now) (accepted-length _ _ (given .list .now) judged good)
+          ∙ taken (inForce (boardIn (given .board .now)) (given .list .now)) m told good,
+    )
 
 pub offer-list-spec : {M : Type 1} → statement M
 offer-list-spec =

@@ -1,24 +1,28 @@
--- `loading::load` meets its contract. The loop's invariant: the memory is 1 and the words of the first e parts' entries.
+-- `access_stores::load` meets its contract. The loop's invariant: the memory is 1 and the words of the first e parts' entries.
 -- Assumes nothing.
 use Prim.Native.Nat.{_≤_, _-_}
-use mathlib.Core.Path.{_≡_, _∙_}
+use mathlib.Core.Path.{_≡_, sym, _∙_}
 use mathlib.Core.List.{_∷_}
 use native.Mathlib.Omega.{arith}
 use borrow.Author.Needs.{needs}
 use lib.ListN.{length, length-set}
 use Rattle.board.specs.Memory.{boardIn}
-use Rattle.loading.specs.Loaded.{wordsOf, entriesBefore}
-use Rattle.loading.proofs.Words.{load-first, put-next, entries-all}
+use Rattle.access_stores.specs.InForce.{wordsOf, entriesBefore}
+use Rattle.access_stores.proofs.Words.{load-first, put-next, entries-all, not-loaded, loaded}
 use Rattle.lists.proofs.Verdicts.{part-is}
-use Rattle.loading.proofs.load.Statement.{statement}
-use Rattle.loading.proofs.load.Tie as tie
+use Rattle.access_stores.proofs.load.Statement.{statement}
+use Rattle.access_stores.proofs.load.Tie as tie
 
 abbrev Inv-loop : tie.InvT-loop
-Inv-loop board memory₀ list e₀ memory e =
+Inv-loop board list memory₀ e₀ memory e =
     (e ≤ 32) × (memory ≡ 1 ∷ wordsOf (entriesBefore (boardIn board) list e)) × (length memory ≡ 129)
 
 abbrev μ-loop : tie.MeasureT-loop
-μ-loop board memory₀ list e₀ memory e = 32 - e
+μ-loop board list memory₀ e₀ memory e = 32 - e
+
+returns : tie.Need-returns Inv-loop μ-loop
+returns c =
+    let given = c .before .before .args in not-loaded _ (given .access .now) (given .list .now) (c .if1 .taken)
 
 clear-requires : tie.Need-clear-requires Inv-loop μ-loop
 clear-requires c κs = search needs
@@ -28,9 +32,10 @@ slice-write-memory c = omega arith
 
 loop-holds : tie.Need-loop-holds Inv-loop μ-loop
 loop-holds c =
-    let start = c .before .before .before .before .before .before in (
+    let given = c .before .before .before .before .before .before .before .args in
+    let whole : length (given .access .now) ≡ 129 = search needs in (
       omega arith,
-      load-first _ (start .args .list .now) (c .before .before .clear .ensures) (start .pre .0),
+      load-first _ (given .list .now) (c .before .before .clear .ensures) whole,
       simp length-set (omega arith),
     )
 
@@ -70,21 +75,19 @@ loop-less c = omega arith
 loop-again : tie.Need-loop-again Inv-loop μ-loop
 loop-again c =
     let turn = c .before .before .before .before .before .before in
-    let list = turn .before .before .before .before .before .before .before .args .list .now in
+    let list = turn .before .before .before .before .before .before .before .before .args .list .now in
     let e = turn .loop .e in (
       omega arith,
       c .before .before .store-entry .ensures ∙ rw (part-is list e, turn .loop .inv .1) (put-next _ list e),
       omega arith,
     )
 
-same-length : tie.Need-same-length Inv-loop μ-loop
-same-length c = omega arith
-
-returns : tie.Need-returns Inv-loop μ-loop
-returns c =
-    let list = c .before .before .before .before .before .before .before .before .args .list .now in
+returns-2 : tie.Need-returns-2 Inv-loop μ-loop
+returns-2 c =
+    let read = c .before .before .before .before .before .before .before in
+    let given = read .before .before .args in
     let all : c .before .loop .e ≡ 32 = omega arith in
-    c .before .loop .inv .1 ∙ rw (all, entries-all _ list)
+    c .before .loop .inv .1 ∙ rw (all, entries-all _ (given .list .now)) (sym (loaded _ (given .access .now) (given .list .now) (read .if1 .left)))
 
 pub load-spec : {M : Type 1} → statement M
 load-spec =
@@ -92,6 +95,7 @@ load-spec =
     (tie.spec
     Inv-loop
     μ-loop
+    returns
     clear-requires
     slice-write-memory
     loop-holds
@@ -107,5 +111,4 @@ load-spec =
     add-e
     loop-less
     loop-again
-    same-length
-    returns)
+    returns-2)

@@ -1,12 +1,12 @@
--- `loading::store_entry` meets its contract: an unused entry and one off the board are stored nowhere, and four stores are the words of any other
+-- `access_stores::store_entry` meets its contract: an unused entry and one off the board are stored nowhere, and four stores are the words of any other
 -- at its row. Assumes nothing.
 use native.Mathlib.Omega.{arith}
 use lib.ListN.{length-set}
 use denote.Ref.{now}
-use Rattle.loading.proofs.Words.{put-unused, put-off, put-on}
+use Rattle.access_stores.proofs.Words.{put-unused, put-off, put-on}
 use borrow.Author.Needs.{needs}
-use Rattle.loading.proofs.store_entry.Statement.{statement}
-use Rattle.loading.proofs.store_entry.Tie as tie
+use Rattle.access_stores.proofs.store_entry.Statement.{statement}
+use Rattle.access_stores.proofs.store_entry.Tie as tie
 
 byte-at-requires : tie.Need-byte-at-requires
 byte-at-requires c κs = search needs

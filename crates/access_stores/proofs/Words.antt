@@ -1,30 +1,25 @@
--- Laws of the access memory: stored entry by entry and read again it gives the entries of the rules, and the list call
--- leaves them or changes nothing. Assumes nothing.
+-- Laws of the access memory: stored entry by entry and read again it gives the entries of the rules. Assumes nothing.
 use Prim.Native.Nat.{ℕ, zero, suc, _+_, _*_, _<_, _≤_}
 use native.Mathlib.Nat.{add-zero}
 use native.Mathlib.Numerals.{add-one, one-add, towards-suc}
 use native.Mathlib.Omega.{arith}
 use mathlib.Core.Path.{_≡_, refl, sym, ap, subst, _∙_}
-use mathlib.Core.Bool.{Bool, true, false, cond}
+use mathlib.Core.Bool.{true, false}
 use mathlib.Core.List.{List, [], _∷_, _++_}
 use mathlib.Core.Logic.{⊎-elim}
 use lib.ListN.{length, set, drop, replicate}
 use lib.Seq.{sets, set-out}
 use lib.Dec.{eqb, ltb}
 use borrow.Author.Tests.{eq-eqb, ne-eqb, lt-ltb, le-ltb, ltb-true, ltb-false}
-use Rattle.rules.specs.declared.Verdict.{Verdict}
-use Rattle.rules.specs.declared.Verdict.the-variants.{Accepted}
 use Rattle.rules.specs.Table.{tableOf}
 use Rattle.rules.specs.Bytes.{u16At}
 use Rattle.rules.specs.Board.{Board, rows, rowOf, onBoard}
-use Rattle.rules.specs.Verdict.{accepted}
 use Rattle.rules.specs.Substructure.{partAt, partsOf, partsFrom, used}
 use Rattle.rules.specs.AccessList.{Entry, noEntry, processorIn, masterIn, secondariesIn, entryIn, withPart, withParts, noEntries, entriesOf}
 use Rattle.rules.proofs.Tests.{decide, cond-true, cond-false}
 use Rattle.rules.proofs.Parts.{parts-step}
-use Rattle.rules.proofs.Verdicts.{not-accepted}
-use Rattle.access.specs.Memory.{listedIn, entryPlace, entryAt, entriesIn}
-use Rattle.loading.specs.Loaded.{wordsOf, putEntry, entriesBefore}
+use Rattle.access.specs.Memory.{entryPlace, entryAt, entriesIn}
+use Rattle.access_stores.specs.InForce.{wordsOf, inForce, loadedFrom, putEntry, entriesBefore}
 
 -- n entries of four words each
 data Rows : ℕ → List Entry → Type 0 where
@@ -154,6 +149,18 @@ put-next b list e =
     put-entry b (partAt 9 list e) (rows-before b list e)
     ∙ ap (λ (n : ℕ). 1 ∷ wordsOf (entriesBefore b list n)) (sym (add-one e))
 
+-- ---- the length
+
+module _ (b : Board) (m list : List ℕ) where
+  -- one of another length is no list
+  pub not-loaded : (length list ≡ 292 → ⊥) → m ≡ loadedFrom b m list
+  unfolding loadedFrom
+  not-loaded other = sym (cond-false (inForce b list) m (ne-eqb (length list) 292 other))
+
+  pub loaded : length list ≡ 292 → loadedFrom b m list ≡ inForce b list
+  unfolding loadedFrom
+  loaded size = cond-true (inForce b list) m (eq-eqb (length list) 292 size)
+
 -- ---- read
 
 -- one row on
@@ -194,18 +201,3 @@ clear-next m i h = clear-suc m i h ∙ ap (λ (n : ℕ). replicate n 0 ++ drop n
 pub clear-all : (m : List ℕ) → replicate (length m) 0 ++ drop (length m) m ≡ replicate (length m) 0
 clear-all [] = refl
 clear-all (x ∷ m) = ap (λ (l : List ℕ). 0 ∷ l) (clear-all m)
-
--- ---- an offer
-
--- one that is refused leaves the memory, and one that is accepted puts its entries there
-module _ {v told : Verdict} (x m : List ℕ) (is : v ≡ told) where
-  pub refused : (v ≡ Accepted → ⊥) → m ≡ cond (accepted told) x m
-  refused bad = sym (cond-false x m (ap accepted (sym is) ∙ not-accepted v bad))
-
-  pub taken : v ≡ Accepted → x ≡ cond (accepted told) x m
-  unfolding accepted
-  taken good = sym (cond-true x m (ap accepted (sym is ∙ good)))
-
--- the verdict, where the code has read whether something was accepted before
-pub verdict-read : {v : Verdict} {x : Bool} (told : Bool → Verdict) (m : List ℕ) → v ≡ told x → x ≡ listedIn m → v ≡ told (listedIn m)
-verdict-read told m judged asked = judged ∙ ap told asked

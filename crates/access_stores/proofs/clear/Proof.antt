@@ -1,12 +1,12 @@
--- `loading::clear` meets its contract. The loop's invariant: the first i words are 0, the others as they were. Assumes nothing.
+-- `access_stores::clear` meets its contract. The loop's invariant: the first i words are 0, the others as they were. Assumes nothing.
 use Prim.Native.Nat.{ℕ, _≤_, _-_}
 use mathlib.Core.Path.{_≡_, refl, ap, _∙_}
 use mathlib.Core.List.{List, _++_}
 use native.Mathlib.Omega.{arith}
 use lib.ListN.{length, drop, set, replicate, length-set}
-use Rattle.loading.proofs.Words.{clear-next, clear-all}
-use Rattle.loading.proofs.clear.Statement.{statement}
-use Rattle.loading.proofs.clear.Tie as tie
+use Rattle.access_stores.proofs.Words.{clear-next, clear-all}
+use Rattle.access_stores.proofs.clear.Statement.{statement}
+use Rattle.access_stores.proofs.clear.Tie as tie
 
 abbrev Inv-loop : tie.InvT-loop
 Inv-loop memory₀ i₀ memory i =

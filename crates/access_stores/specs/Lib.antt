@@ -1,0 +1,2 @@
+-- The access memory that a list in force leaves.
+pub mod InForce

@@ -1,0 +1,24 @@
+-- Laws of an offer by its verdict: what the memory holds afterwards. Assumes nothing.
+use Prim.Native.Nat.{ℕ}
+use mathlib.Core.Path.{_≡_, sym, ap, _∙_}
+use mathlib.Core.Bool.{Bool, cond}
+use mathlib.Core.List.{List}
+use Rattle.rules.specs.declared.Verdict.{Verdict}
+use Rattle.rules.specs.declared.Verdict.the-variants.{Accepted}
+use Rattle.rules.specs.Verdict.{accepted}
+use Rattle.rules.proofs.Tests.{cond-true, cond-false}
+use Rattle.rules.proofs.Verdicts.{not-accepted}
+use Rattle.access.specs.Memory.{listedIn}
+
+-- one that is refused leaves the memory, and one that is accepted puts its entries there
+module _ {v told : Verdict} (x m : List ℕ) (is : v ≡ told) where
+  pub refused : (v ≡ Accepted → ⊥) → m ≡ cond (accepted told) x m
+  refused bad = sym (cond-false x m (ap accepted (sym is) ∙ not-accepted v bad))
+
+  pub taken : v ≡ Accepted → x ≡ cond (accepted told) x m
+  unfolding accepted
+  taken good = sym (cond-true x m (ap accepted (sym is ∙ good)))
+
+-- the verdict, where the code has read whether something was accepted before
+pub verdict-read : {v : Verdict} {x : Bool} (told : Bool → Verdict) (m : List ℕ) → v ≡ told x → x ≡ listedIn m → v ≡ told (listedIn m)
+verdict-read told m judged asked = judged ∙ ap told asked
