@@ -16,7 +16,7 @@ use Rattle.rules.specs.Description.{Processor, Description, nothingListed, isHo
 use Rattle.rules.proofs.Tests.{decide, cond-true, cond-false, and-left, and-right}
 use Rattle.items.specs.Cursor.{itemNo, listedBefore}
 use Rattle.items.proofs.Cursors.{listed-next}
-use Rattle.descriptions.proofs.Noted.{any-last, length-last}
+use Rattle.comparing.proofs.Noted.{any-last, length-last}
 use Rattle.boards.specs.Filled.{sharesWord, rowAfter}
 use Rattle.boards.proofs.Lists.{place-first}
 use Rattle.boards.proofs.Steps.{is-processor, home-here}

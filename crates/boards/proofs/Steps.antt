@@ -15,7 +15,7 @@ use Rattle.rules.specs.Description.{Host, Processor, Description, isHost, numbe
 use Rattle.rules.proofs.Tests.{decide, clash, or-left, or-right, or-false-left, cond-true, cond-false}
 use Rattle.rules.proofs.Tables.{table-length}
 use Rattle.board.specs.Memory.{boardBytes}
-use Rattle.descriptions.proofs.Noted.{any-last, or-false}
+use Rattle.comparing.proofs.Noted.{any-last, or-false}
 use Rattle.boards.specs.Filled.{putItem}
 use Rattle.boards.proofs.Lists.{place-kept, place-first, getD-last, getD-before, table-put}
 use Rattle.boards.proofs.Stores.{store-host, store-processor}

@@ -1,3 +1,3 @@
 -- What the proofs of this crate and of those above it share.
-pub mod Noted
 pub mod Verdicts
+pub mod Faults

@@ -10,7 +10,7 @@ use lib.ListN.{length}
 use Rattle.rules.specs.Table.{firstOf}
 use Rattle.rules.specs.Description.{descriptionTable, boardVerdict}
 use Rattle.items.proofs.Fields.{field-some}
-use Rattle.descriptions.proofs.Noted.{judged-is}
+use Rattle.descriptions.proofs.Faults.{judged-is}
 use Rattle.rules.proofs.Verdicts.{no-fault}
 use Rattle.descriptions.proofs.Verdicts.{Reached, reached-start, turn-bad, turn-good, end-verdict}
 use Rattle.descriptions.proofs.judge.Statement.{statement}
@@ -33,7 +33,7 @@ item-at-requires : tie.Need-item-at-requires Inv-loop μ-loop
 item-at-requires c κs = search needs
 
 look-back-requires : tie.Need-look-back-requires Inv-loop μ-loop
-look-back-requires c κs = omega (arith, c .before .before .loop .inv .cursor, c .before .before .loop .inv .within)
+look-back-requires c κs = search needs
 
 fault-of-requires : tie.Need-fault-of-requires Inv-loop μ-loop
 fault-of-requires c κs = search needs
@@ -48,7 +48,7 @@ returns-2 c =
     sym
     (ap (λ (b : Bool). boardVerdict b (now (a .description))) (c .before .before .before .before .before .before .if1 .left)
     ∙ turn-bad (now (a .description)) (l .at) (l .count) (l .inv) (c .before .before .before .before .loop-test .taken)
-    (c .before .before .before .item-at .ensures) (judged-is _ _ (c .before .fault-of .ensures) (c .before .before .look-back .ensures))
+    (c .before .before .before .item-at .ensures) (judged-is (now (a .description)) (l .at) (l .count) _ (l .inv) (c .before .fault-of .ensures) (c .before .before .look-back .ensures))
     (λ good. no-fault (rw good at (c .match .keys2))))
 
 field-size-requires : tie.Need-field-size-requires Inv-loop μ-loop
@@ -61,7 +61,7 @@ next c =
     let a = c .before .before .before .before .before .before .before .before .before .before .args in
     turn-good (now (a .description)) (l .at) (l .count) (l .inv) (c .before .before .before .before .before .before .loop-test .taken)
     (c .before .before .before .before .before .item-at .ensures)
-    (sym (judged-is _ _ (c .before .before .before .fault-of .ensures) (c .before .before .before .before .look-back .ensures))
+    (sym (judged-is (now (a .description)) (l .at) (l .count) _ (l .inv) (c .before .before .before .fault-of .ensures) (c .before .before .before .before .look-back .ensures))
     ∙ c .before .enum-told .given .1)
     (c .field-size .ensures)
 

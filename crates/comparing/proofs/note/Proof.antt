@@ -1,9 +1,9 @@
--- `descriptions::note` meets its contract: an item of the other kind adds to one answer, one of the same kind to all. Assumes nothing.
+-- `comparing::note` meets its contract: an item of the other kind adds to one answer, one of the same kind to all. Assumes nothing.
 use borrow.Author.Needs.{needs}
 use borrow.Author.Tests.{not-true, not-false}
-use Rattle.descriptions.proofs.Noted.{note-other, note-same}
-use Rattle.descriptions.proofs.note.Statement.{statement}
-use Rattle.descriptions.proofs.note.Tie as tie
+use Rattle.comparing.proofs.Noted.{note-other, note-same}
+use Rattle.comparing.proofs.note.Statement.{statement}
+use Rattle.comparing.proofs.note.Tie as tie
 
 mixes-classes-requires : tie.Need-mixes-classes-requires
 mixes-classes-requires c κs = search needs

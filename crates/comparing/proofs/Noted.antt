@@ -1,23 +1,24 @@
--- Laws of what the items before an item say of it: a turn of the walk back, and that it is what D3, D5 and D6 ask. Assumes nothing.
-use Prim.Native.Nat.{ℕ, zero, suc, _+_, _≤_}
+-- Laws of what the items before an item say of it: a turn of the walk back, and where it ends. Assumes nothing.
+use Prim.Native.Nat.{ℕ, zero, suc, _+_, _-_, _≤_, _<_}
+use native.Mathlib.Nat.{add-zero}
+use native.Mathlib.Numerals.{add-one}
 use native.Mathlib.Omega.{arith}
 use mathlib.Core.Path.{_≡_, refl, sym, ap, ap₂, _∙_}
 use mathlib.Core.Bool.{Bool, true, false, cond, not, _&&_, _||_, and-false}
 use mathlib.Core.List.{List, [], _∷_, _++_}
 use mathlib.Core.Logic.{⊎-elim}
 use lib.ListN.{length, length-append}
-use lib.Dec.{eqb, leb}
+use lib.Dec.{eqb, ltb}
+use borrow.Author.Tests.{lt-ltb, le-ltb}
 use Rattle.rules.specs.declared.Item.{Item}
-use Rattle.rules.specs.declared.Verdict.{Verdict}
-use Rattle.rules.specs.declared.Verdict.the-variants.{Accepted}
 use Rattle.rules.specs.Table.{firstOf, anyOf}
-use Rattle.rules.specs.Board.{rows, hostLimit}
-use Rattle.rules.specs.Description.{Description, nothingListed, isHost, listsHost, listsProcessor, repeats, otherClass, isFull, itemTable, withItem}
+use Rattle.rules.specs.Description.{Description, nothingListed, hostTag, processorTag, bodySize, fieldSize, isHost, listsHost, listsProcessor, repeats, otherClass, withItem}
 use Rattle.rules.proofs.Tests.{decide, cond-true, cond-false}
-use Rattle.items.specs.Cursor.{itemNo, listedBefore}
-use Rattle.items.proofs.Cursors.{listed-next}
-use Rattle.descriptions.specs.declared.Before.{Before}
-use Rattle.descriptions.specs.Judged.{sameKind, mixesClasses, kindCount, beforeIn, noted, faultOf}
+use Rattle.items.specs.Cursor.{cursorAt, itemNo, listedBefore}
+use Rattle.items.proofs.Fields.{field-some}
+use Rattle.items.proofs.Cursors.{cursor-next, cursor-order}
+use Rattle.faults.specs.declared.Before.{Before}
+use Rattle.comparing.specs.Compared.{sameKind, mixesClasses, kindCount, beforeIn, noted, listedWithin}
 
 -- ---- a turn of the walk, as the code takes it
 
@@ -127,48 +128,80 @@ module _ (x : Item) where
   unfolding nothingListed kindCount
   none-counted = ⊎-elim (λ (t : isHost x ≡ true). rw t) (λ (f : isHost x ≡ false). rw f) (decide (isHost x))
 
+module _ (bytes : List ℕ) where
+  -- an item that begins within the bytes is listed behind those before it
+  within-next : (k : ℕ) → cursorAt bytes k < length bytes → listedWithin bytes (k + 1) ≡ withItem (listedWithin bytes k) (itemNo bytes k)
+  unfolding listedWithin
+  within-next k inside = rw (add-one k, lt-ltb (cursorAt bytes k) (length bytes) inside)
+
+  -- where one begins past the end, it is not, and none behind it
+  within-skip : (k : ℕ) → length bytes ≤ cursorAt bytes k → listedWithin bytes (suc k) ≡ listedWithin bytes k
+  unfolding listedWithin
+  within-skip k past = cond-false _ _ (le-ltb (cursorAt bytes k) (length bytes) past)
+
+  within-past : (k j : ℕ) → length bytes ≤ cursorAt bytes k → listedWithin bytes (k + j) ≡ listedWithin bytes k
+  within-past k zero past = ap (listedWithin bytes) (add-zero k)
+  within-past k (suc j) past =
+      let step : k + suc j ≡ suc (k + j) = omega arith in
+      let later = cursor-order bytes k (k + j) (omega arith) in
+      ap (listedWithin bytes) step ∙ within-skip (k + j) (omega arith) ∙ within-past k j past
+
+  pub within-end : (k n : ℕ) → k ≤ n → length bytes ≤ cursorAt bytes k → listedWithin bytes k ≡ listedWithin bytes n
+  within-end k n few past =
+      let whole : k + (n - k) ≡ n = omega arith in
+      sym (within-past k (n - k) past) ∙ ap (listedWithin bytes) whole
+
+  -- where the items end within the bytes, all before are listed
+  pub within-all : (k : ℕ) → cursorAt bytes k ≤ length bytes → listedWithin bytes k ≡ listedBefore bytes k
+  unfolding listedWithin listedBefore
+  within-all zero inside = refl
+  within-all (suc k) inside =
+      let begins : cursorAt bytes k < length bytes = omega (arith, sym (ap (cursorAt bytes) (add-one k)) ∙ cursor-next bytes k, field-some (itemNo bytes k)) in
+      cond-true _ _ (lt-ltb (cursorAt bytes k) (length bytes) begins)
+      ∙ ap (λ (d : Description). withItem d (itemNo bytes k)) (within-all k (omega arith))
+
 module _ (bytes : List ℕ) (x : Item) where
   -- nothing is listed before the first
-  pub walk-start : record { repeated = false; mixed = false; same = 0 } ≡ beforeIn (listedBefore bytes 0) x
-  unfolding beforeIn listedBefore
+  pub walk-start : record { repeated = false; mixed = false; same = 0 } ≡ beforeIn (listedWithin bytes 0) x
+  unfolding beforeIn listedWithin
   walk-start = λ t. record { repeated = sym (none-repeated x) t; mixed = sym (none-mixed x) t; same = sym (none-counted x) t }
 
   -- a turn
-  pub walk-next : (k : ℕ) {b : Before} {y : Item} → b ≡ beforeIn (listedBefore bytes k) x → y ≡ itemNo bytes k
-      → noted x b y ≡ beforeIn (listedBefore bytes (k + 1)) x
-  walk-next k told is =
+  pub walk-next : (k : ℕ) {b : Before} {y : Item} → cursorAt bytes k < length bytes → b ≡ beforeIn (listedWithin bytes k) x → y ≡ itemNo bytes k
+      → noted x b y ≡ beforeIn (listedWithin bytes (k + 1)) x
+  walk-next k inside told is =
       ap₂ (noted x) told is
-      ∙ noted-next (listedBefore bytes k) x (itemNo bytes k)
-      ∙ ap (λ (d : Description). beforeIn d x) (sym (listed-next bytes k))
+      ∙ noted-next (listedWithin bytes k) x (itemNo bytes k)
+      ∙ ap (λ (d : Description). beforeIn d x) (sym (within-next bytes k inside))
 
   -- as many are of its kind as were passed, at most
-  count-passed : (k : ℕ) → kindCount (listedBefore bytes k) x ≤ k
-  unfolding listedBefore
+  count-passed : (k : ℕ) → kindCount (listedWithin bytes k) x ≤ k
+  unfolding listedWithin
   count-passed zero = let none = none-counted x in omega arith
   count-passed (suc k) =
       let before = count-passed k in
-      let more = count-more (listedBefore bytes k) x (itemNo bytes k) in
-      omega arith
+      let more = count-more (listedWithin bytes k) x (itemNo bytes k) in
+      ⊎-elim
+      (λ (t : ltb (cursorAt bytes k) (length bytes) ≡ true). rw t (omega arith))
+      (λ (f : ltb (cursorAt bytes k) (length bytes) ≡ false). rw f (omega arith))
+      (decide (ltb (cursorAt bytes k) (length bytes)))
 
-  pub same-passed : (k : ℕ) {b : Before} → b ≡ beforeIn (listedBefore bytes k) x → b .same ≤ k
+  pub same-passed : (k : ℕ) {b : Before} → b ≡ beforeIn (listedWithin bytes k) x → b .same ≤ k
   unfolding beforeIn
   same-passed k told =
       let is = ap (λ (a : Before). a .same) told in
       let passed = count-passed k in
       omega arith
 
--- ---- D1 to D6
-
-module _ (d : Description) (x : Item) where
-  full-is : leb (cond (isHost x) hostLimit rows) (kindCount d x) ≡ isFull d x
-  unfolding kindCount isFull
-  full-is = ⊎-elim (λ (t : isHost x ≡ true). rw t) (λ (f : isHost x ≡ false). rw f) (decide (isHost x))
-
-  -- the faults by what the items before say are those of the rules
-  fault-is : faultOf x (beforeIn d x) ≡ firstOf Accepted (itemTable d x)
-  unfolding faultOf beforeIn itemTable firstOf
-  fault-is = rw full-is
-
-  -- and so are those that the code finds
-  pub judged-is : {b : Before} {fault : Verdict} → fault ≡ faultOf x b → b ≡ beforeIn d x → fault ≡ firstOf Accepted (itemTable d x)
-  judged-is told is = told ∙ ap (faultOf x) is ∙ fault-is
+-- a field is short
+pub field-few : (x : Item) → fieldSize x ≤ 6
+unfolding fieldSize bodySize firstOf
+field-few x =
+    ⊎-elim
+    (λ (t : eqb (x .tag) hostTag ≡ true). rw t (omega arith))
+    (λ (f : eqb (x .tag) hostTag ≡ false).
+    ⊎-elim
+    (λ (t : eqb (x .tag) processorTag ≡ true). rw (f, t) (omega arith))
+    (λ (n : eqb (x .tag) processorTag ≡ false). rw (f, n) (omega arith))
+    (decide (eqb (x .tag) processorTag)))
+    (decide (eqb (x .tag) hostTag))

@@ -1,12 +1,12 @@
--- `descriptions::fault_of` meets its contract: each return is a line of the table, after those above it. Assumes nothing.
+-- `faults::fault_of` meets its contract: each return is a line of the table, after those above it. Assumes nothing.
 use Prim.Native.Nat.{ℕ, _≤_, _<_}
 use mathlib.Core.Path.{subst}
 use borrow.Author.Needs.{needs}
 use borrow.Author.Tests.{lt-ltb, le-ltb, le-leb, lt-leb, eq-eqb, ne-eqb}
 use Rattle.rules.specs.Table.{firstOf}
-use Rattle.descriptions.specs.Judged.{faultOf}
-use Rattle.descriptions.proofs.fault_of.Statement.{statement}
-use Rattle.descriptions.proofs.fault_of.Tie as tie
+use Rattle.faults.specs.Faults.{faultOf}
+use Rattle.faults.proofs.fault_of.Statement.{statement}
+use Rattle.faults.proofs.fault_of.Tie as tie
 
 returns : tie.Need-returns
 unfolding faultOf firstOf

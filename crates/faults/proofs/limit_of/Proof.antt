@@ -1,9 +1,9 @@
--- `descriptions::limit_of` meets its contract. Assumes nothing.
+-- `faults::limit_of` meets its contract. Assumes nothing.
 use mathlib.Core.Path.{sym}
 use borrow.Author.Tests.{eq-eqb, ne-eqb}
 use Rattle.rules.proofs.Tests.{cond-true, cond-false}
-use Rattle.descriptions.proofs.limit_of.Statement.{statement}
-use Rattle.descriptions.proofs.limit_of.Tie as tie
+use Rattle.faults.proofs.limit_of.Statement.{statement}
+use Rattle.faults.proofs.limit_of.Tie as tie
 
 returns : tie.Need-returns
 returns c = sym (cond-true _ _ (eq-eqb _ 1 (c .if1 .taken)))

@@ -1,10 +1,10 @@
--- `descriptions::same_kind` meets its contract. Assumes nothing.
+-- `comparing::same_kind` meets its contract. Assumes nothing.
 use mathlib.Core.Path.{sym}
 use borrow.Author.Tests.{eq-eqb, ne-eqb}
 use Rattle.rules.proofs.Tests.{cond-true, cond-false}
-use Rattle.descriptions.specs.Judged.{sameKind}
-use Rattle.descriptions.proofs.same_kind.Statement.{statement}
-use Rattle.descriptions.proofs.same_kind.Tie as tie
+use Rattle.comparing.specs.Compared.{sameKind}
+use Rattle.comparing.proofs.same_kind.Statement.{statement}
+use Rattle.comparing.proofs.same_kind.Tie as tie
 
 returns : tie.Need-returns
 unfolding sameKind

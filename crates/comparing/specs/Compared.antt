@@ -1,17 +1,14 @@
--- The judge's steps over document 02's D1 to D6: what the items before an item say of it, noted one at a time, and the faults of an item
--- by that. Assumes nothing.
-use Prim.Native.Nat.{ℕ, _+_}
+-- What the items before an item of a board description say of it, noted one at a time: the answers that document 02's D3, D5 and D6 ask
+-- for. Assumes nothing.
+use Prim.Native.Nat.{ℕ, zero, suc, _+_}
 use mathlib.Core.Bool.{Bool, cond, not, _&&_, _||_}
-use mathlib.Core.List.{[], _∷_}
+use mathlib.Core.List.{List}
 use lib.ListN.{length}
-use lib.Dec.{eqb, ltb, leb}
+use lib.Dec.{eqb, ltb}
 use Rattle.rules.specs.declared.Item.{Item}
-use Rattle.rules.specs.declared.Verdict.{Verdict}
-use Rattle.rules.specs.declared.Verdict.the-variants.{Accepted, D1, D2, D3, D4, D5, D6}
-use Rattle.rules.specs.Table.{_gives_, firstOf}
-use Rattle.rules.specs.Board.{rows, hostLimit}
-use Rattle.rules.specs.Description.{Description, isHost, repeats, otherClass}
-use Rattle.descriptions.specs.declared.Before.{Before}
+use Rattle.rules.specs.Description.{Description, nothingListed, isHost, repeats, otherClass, withItem}
+use Rattle.items.specs.Cursor.{cursorAt, itemNo}
+use Rattle.faults.specs.declared.Before.{Before}
 
 -- the items are of one kind
 unfoldable pub sameKind : Item → Item → Bool
@@ -39,14 +36,8 @@ noted x b y =
       same = cond (sameKind x y) (b .same + 1) (b .same);
     }
 
--- D1 to D6 of an item, by what those before it say
-unfoldable pub faultOf : Item → Before → Verdict
-faultOf x b =
-    firstOf Accepted
-    ((eqb (x .tag) 0 gives D1)
-    ∷ (eqb (x .number) 0 gives D2)
-    ∷ (b .repeated gives D3)
-    ∷ (ltb 1 (x .mark) gives D4)
-    ∷ (b .mixed gives D5)
-    ∷ (leb (cond (isHost x) hostLimit rows) (b .same) gives D6)
-    ∷ [])
+-- what the first k items list, those of them that begin within the bytes
+unfoldable pub listedWithin : List ℕ → ℕ → Description
+listedWithin bytes zero = nothingListed
+listedWithin bytes (suc k) =
+    cond (ltb (cursorAt bytes k) (length bytes)) (withItem (listedWithin bytes k) (itemNo bytes k)) (listedWithin bytes k)

@@ -1,0 +1,2 @@
+-- What the items before an item say of it.
+pub mod Compared

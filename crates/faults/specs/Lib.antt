@@ -1,0 +1,2 @@
+-- The faults of an item.
+pub mod Faults
