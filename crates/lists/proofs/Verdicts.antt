@@ -1,12 +1,11 @@
 -- Laws of the judge: what one entry comes to, what is left after it, and what an accepted list is. Assumes nothing.
-use Prim.Native.Nat.{ℕ, zero, suc, _+_, _*_, _-_, _<_}
-use native.Mathlib.Nat.{add-sub-cancel-left}
+use Prim.Native.Nat.{ℕ, zero, suc, _+_, _*_, _<_}
 use native.Mathlib.Omega.{arith}
 use mathlib.Core.Path.{_≡_, refl, sym, ap, _∙_}
 use mathlib.Core.Bool.{Bool, true, false, cond, not, _||_}
 use mathlib.Core.List.{List}
 use mathlib.Core.Logic.{⊎-elim}
-use lib.ListN.{length, take, drop}
+use lib.ListN.{length}
 use lib.Dec.{eqb}
 use borrow.Author.Tests.{eqb-true, ne-eqb}
 use Rattle.rules.specs.declared.Verdict.{Verdict}
@@ -22,10 +21,6 @@ use Rattle.rules.proofs.Verdicts.{not-accepted}
 use Rattle.entries.specs.Entries.{partsBefore, writtenBefore, verdictFrom, faultLines, faultOf}
 use Rattle.entries.proofs.Faults.{written-named, from-entry}
 use Rattle.lists.specs.Judged.{badFrom}
-
--- entry e's part, as the code cuts it out
-pub part-is : (list : List ℕ) (e : ℕ) → take (4 + 9 * e + 9 - (4 + 9 * e)) (drop (4 + 9 * e) list) ≡ partAt 9 list e
-part-is list e = ap (λ (n : ℕ). take n (drop (4 + 9 * e) list)) (add-sub-cancel-left (4 + 9 * e) 9)
 
 -- ---- A5 to A8: one entry
 

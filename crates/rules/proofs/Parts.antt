@@ -2,10 +2,10 @@
 use Prim.Native.Nat.{ℕ, zero, suc, _+_, _*_, _-_, _<_}
 use mathlib.Core.Path.{_≡_, refl, sym, _∙_, ap}
 use mathlib.Core.List.{List, _∷_}
-use native.Mathlib.Nat.{add-zero, add-assoc, mul-suc}
+use native.Mathlib.Nat.{add-zero, add-assoc, mul-suc, add-sub-cancel-left}
 use native.Mathlib.Numerals.{add-one}
 use native.Mathlib.Omega.{arith}
-use lib.ListN.{length, getD, drop}
+use lib.ListN.{length, getD, take, drop}
 use lib.Seq.{getD-take, getD-drop, drop-drop}
 use Rattle.rules.specs.Bytes.{byteAt}
 use Rattle.rules.specs.Substructure.{partAt, partsOf, partsFrom, numberIn}
@@ -18,6 +18,10 @@ parts-count width bytes (suc n) = ap suc (parts-count width (drop width bytes) n
 module _ (width : ℕ) (bytes : List ℕ) where
   pub parts-length : (e n : ℕ) → length (partsFrom width bytes e n) ≡ n
   parts-length e n = parts-count width (drop (4 + width * e) bytes) n
+
+  -- an entry as the code cuts it out
+  pub part-cut : (e : ℕ) → take (4 + width * e + width - (4 + width * e)) (drop (4 + width * e) bytes) ≡ partAt width bytes e
+  part-cut e = ap (λ (n : ℕ). take n (drop (4 + width * e) bytes)) (add-sub-cancel-left (4 + width * e) width)
 
   -- the first of the parts from entry e on is entry e, and behind it are those from the next entry on
   pub parts-step : (e n : ℕ) → partsFrom width bytes e (suc n) ≡ partAt width bytes e ∷ partsFrom width bytes (suc e) n

@@ -9,7 +9,7 @@ use lib.ListN.{length, length-set}
 use Rattle.board.specs.Memory.{boardIn}
 use Rattle.access_stores.specs.InForce.{wordsOf, entriesBefore}
 use Rattle.access_stores.proofs.Words.{load-first, put-next, entries-all, not-loaded, loaded}
-use Rattle.lists.proofs.Verdicts.{part-is}
+use Rattle.rules.proofs.Parts.{part-cut}
 use Rattle.access_stores.proofs.load.Statement.{statement}
 use Rattle.access_stores.proofs.load.Tie as tie
 
@@ -78,7 +78,7 @@ loop-again c =
     let list = turn .before .before .before .before .before .before .before .before .args .list .now in
     let e = turn .loop .e in (
       omega arith,
-      c .before .before .store-entry .ensures ∙ rw (part-is list e, turn .loop .inv .1) (put-next _ list e),
+      c .before .before .store-entry .ensures ∙ rw (part-cut 9 list e, turn .loop .inv .1) (put-next _ list e),
       omega arith,
     )
 

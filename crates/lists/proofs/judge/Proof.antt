@@ -14,8 +14,9 @@ use Rattle.rules.specs.AccessList.{entryTable, contentTable, listTable, verdict
 use Rattle.entries.specs.Entries.{partsBefore, verdictFrom}
 use Rattle.entries.proofs.Faults.{from-last}
 use Rattle.rules.proofs.Verdicts.{no-fault}
+use Rattle.rules.proofs.Parts.{part-cut}
 use Rattle.lists.specs.Judged.{badFrom}
-use Rattle.lists.proofs.Verdicts.{part-is, secondary-bad, secondary-good, secondaries-good, turn-unused, turn-bad, turn-good}
+use Rattle.lists.proofs.Verdicts.{secondary-bad, secondary-good, secondaries-good, turn-unused, turn-bad, turn-good}
 use Rattle.lists.proofs.judge.Statement.{statement}
 use Rattle.lists.proofs.judge.Tie as tie
 
@@ -117,7 +118,7 @@ entries-again c =
     let e = turn .entries .e in (
       omega arith,
       turn .entries .inv .1
-          ∙ turn-unused _ list e (omega arith) (part-is list e) (c .before .byte-at .ensures) (c .if6 .taken),
+          ∙ turn-unused _ list e (omega arith) (part-cut 9 list e) (c .before .byte-at .ensures) (c .if6 .taken),
     )
 
 cast-named-before : tie.Need-cast-named-before Inv-loop μ-loop Inv-entries μ-entries
@@ -176,7 +177,7 @@ entries-again-2 c =
     let all : c .before .loop .k ≡ 3 = omega arith in (
       omega arith,
       turn .entries .inv .1
-          ∙ turn-good _ list e (omega arith) (part-is list e) (judged .before .before .before .byte-at .ensures)
+          ∙ turn-good _ list e (omega arith) (part-cut 9 list e) (judged .before .before .before .byte-at .ensures)
           (judged .before .before .if6 .left) (judged .before .named-before .ensures) (judged .check-entry .ensures)
           (c .before .before .enum-told .given .1)
           ∙ cond-false _ _ (c .before .loop .inv .1 ∙ secondaries-good _ _ (c .before .loop .k) all),
@@ -195,7 +196,7 @@ returns-6 c =
     let e = turn .entries .e in
     sym
     (turn .entries .inv .1
-    ∙ turn-bad _ list e (omega arith) (part-is list e) (judged .before .before .before .byte-at .ensures)
+    ∙ turn-bad _ list e (omega arith) (part-cut 9 list e) (judged .before .before .before .byte-at .ensures)
     (judged .before .before .if6 .left) (judged .before .named-before .ensures) (judged .check-entry .ensures)
     (λ good. no-fault (rw good at (c .match .keys2))))
 
@@ -208,7 +209,7 @@ returns-7 c =
     let k = c .before .before .before .before .loop .k in
     sym
     (turn .entries .inv .1
-    ∙ turn-good _ list e (omega arith) (part-is list e) (judged .before .before .before .byte-at .ensures)
+    ∙ turn-good _ list e (omega arith) (part-cut 9 list e) (judged .before .before .before .byte-at .ensures)
     (judged .before .before .if6 .left) (judged .before .named-before .ensures) (judged .check-entry .ensures)
     (c .before .before .before .before .before .enum-told .given .1)
     ∙ cond-true _ _
