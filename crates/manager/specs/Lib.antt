@@ -1,3 +1,3 @@
--- What a message call decides, and what the calls promise.
+-- What a message call decides, and what it promises.
 pub mod Decision
 pub mod Calls

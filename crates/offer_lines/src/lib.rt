@@ -2,12 +2,12 @@
 // that it prints. The rules are specs/Offers.antt.
 ghost use Rattle.board.specs.Memory.{boardIn};
 ghost use Rattle.offer_lines.specs.Offers.{PlayedBlock, PlayedBoard, PlayedList};
-use manager::offer_block;
-use manager::offer_board;
-use manager::offer_list;
 use offer_texts::print_block;
 use offer_texts::print_board;
 use offer_texts::print_list;
+use offering::offer_block;
+use offering::offer_board;
+use offering::offer_list;
 use texts::ROOM;
 
 // Carries out a board field, and writes its line over the start of `line`. Gives the line's length.

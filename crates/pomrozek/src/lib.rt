@@ -7,13 +7,13 @@ ghost use Rattle.board.specs.Memory.{boardIn, boardBytes};
 ghost use Rattle.manager.specs.Calls.{lending};
 ghost use Rattle.pomrozek.specs.Exported.{ExportedBlock, ExportedBoard, ExportedList, ExportedMessage};
 use manager::message;
-use manager::offer_block;
-use manager::offer_board;
-use manager::offer_list;
-use manager::start;
 use numbers::outcome_number;
 use numbers::role_number;
 use numbers::verdict_number;
+use offering::offer_block;
+use offering::offer_board;
+use offering::offer_list;
+use offering::start;
 
 // Fills the board memory with document 01's board, which stands until a description is taken.
 #[no_mangle]

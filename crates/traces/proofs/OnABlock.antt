@@ -19,8 +19,8 @@ use Rattle.access.specs.Memory.{listedIn}
 use Rattle.loading.specs.Loaded.{accessAfter, accessAfterBlock}
 use Rattle.board.specs.Memory.{boardBytes}
 use Rattle.starting.proofs.Started.{start-read}
-use Rattle.manager.specs.Calls.{BlockCall}
-use Rattle.manager.proofs.EachCall.{block-state}
+use Rattle.offering.specs.Calls.{BlockCall}
+use Rattle.offering.proofs.EachCall.{block-state}
 use Rattle.traces.specs.Trace.{Memories, started, blockStep, beforeOf, afterOf, Meets, done, step, Loads, Loaded}
 use Rattle.traces.proofs.OnTheBench.{listed-memories}
 

@@ -31,8 +31,9 @@ use Rattle.loading.specs.Loaded.{accessAfter}
 use Rattle.records.specs.Memory.{recordsIn, stateIn}
 use Rattle.board.specs.Memory.{boardBytes}
 use Rattle.starting.proofs.Started.{start-read}
-use Rattle.manager.specs.Calls.{lending, ListCall, MessageCall}
-use Rattle.manager.proofs.EachCall.{list-state}
+use Rattle.offering.specs.Calls.{ListCall}
+use Rattle.offering.proofs.EachCall.{list-state}
+use Rattle.manager.specs.Calls.{lending, MessageCall}
 use Rattle.traces.specs.Trace.{Memories, started, Step, listStep, messageStep, beforeOf, afterOf, callOf, Meets, Trace, done, step, callsOf, Loads, Loaded}
 use Rattle.traces.specs.Statement.{CodeNoninterference}
 use Rattle.traces.specs.Warranty.{leftIn}

@@ -19,8 +19,8 @@ use Rattle.board.proofs.Read.{board-back}
 use Rattle.boards.specs.Filled.{boardAfter}
 use Rattle.access.specs.Memory.{listedIn}
 use Rattle.loading.specs.Loaded.{accessAfter}
-use Rattle.manager.specs.Calls.{BoardCall, ListCall}
-use Rattle.manager.proofs.EachCall.{board-call, list-state}
+use Rattle.offering.specs.Calls.{BoardCall, ListCall}
+use Rattle.offering.proofs.EachCall.{board-call, list-state}
 use Rattle.traces.specs.Trace.{Memories, started, boardStep, listStep, beforeOf, afterOf, Meets, done, step, Loads, Loaded}
 use Rattle.traces.specs.Statement.{CodeNoninterference}
 use Rattle.traces.proofs.Theorem.{of-the-code}

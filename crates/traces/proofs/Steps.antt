@@ -14,7 +14,8 @@ use Rattle.noninterference.specs.Statement.{picked, answers}
 use Rattle.access.specs.Memory.{setupIn}
 use Rattle.records.specs.Memory.{stateIn, kept}
 use Rattle.board.specs.Memory.{boardIn}
-use Rattle.manager.specs.Calls.{BlockCall, BoardCall, ListCall, MessageCall}
+use Rattle.offering.specs.Calls.{BlockCall, BoardCall, ListCall}
+use Rattle.manager.specs.Calls.{MessageCall}
 use Rattle.traces.specs.Trace.{Memories, Step, boardStep, listStep, blockStep, messageStep, beforeOf, afterOf, callOf, Meets, Trace, done, step, endOf, callsOf}
 use Rattle.traces.specs.Statement.{given}
 use Rattle.traces.proofs.Kept.{answer-kept, message-kept, offer-kept}

@@ -1,5 +1,5 @@
 -- Traces of the code: calls one after the other, over the three memories that the caller lends, where every call meets the contract of
--- crate manager and nobody else writes to the memories. Whatever code meets the contracts has these traces. Assumes nothing.
+-- crate offering or manager and nobody else writes to the memories. Whatever code meets the contracts has these traces. Assumes nothing.
 use Prim.Native.Nat.{ℕ}
 use mathlib.Core.Path.{_≡_}
 use mathlib.Core.List.{List, [], _∷_, _++_}
@@ -13,7 +13,8 @@ use Rattle.rules.specs.Description.{ours}
 use Rattle.rules.specs.Block.{listPart}
 use Rattle.rules.specs.Call.{board, list, block, Lent, Call, offer, message}
 use Rattle.board.specs.Memory.{boardIn, boardBytes}
-use Rattle.manager.specs.Calls.{BlockCall, BoardCall, ListCall, MessageCall}
+use Rattle.offering.specs.Calls.{BlockCall, BoardCall, ListCall}
+use Rattle.manager.specs.Calls.{MessageCall}
 
 -- the board memory, the access memory and the record memory
 pub record Memories : Type 0 where

@@ -1,4 +1,4 @@
--- `calls::decide` meets its contract: the rows up to the sender refuse, or those from the type on decide. Assumes nothing.
+-- `manager::decide` meets its contract: the rows up to the sender refuse, or those from the type on decide. Assumes nothing.
 use mathlib.Core.Path.{subst⁻¹}
 use mathlib.Core.List.{[], _∷_}
 use types.Run.{miss}
@@ -6,8 +6,8 @@ use denote.Ref.{now}
 use Rattle.manager.specs.Decision.{Decides}
 use Rattle.manager.proofs.Tables.{passed-on, refused-first}
 use borrow.Author.Needs.{needs}
-use Rattle.manager.proofs.calls.decide.Statement.{statement}
-use Rattle.manager.proofs.calls.decide.Tie as tie
+use Rattle.manager.proofs.decide.Statement.{statement}
+use Rattle.manager.proofs.decide.Tie as tie
 
 admit-requires : tie.Need-admit-requires
 admit-requires c κs = search needs

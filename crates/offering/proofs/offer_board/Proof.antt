@@ -1,9 +1,9 @@
--- `manager::offer_board` meets its contract: the board call of crate `boards`, read as the rules' state. Assumes nothing.
+-- `offering::offer_board` meets its contract: the board call of crate `boards`, read as the rules' state. Assumes nothing.
 use denote.Ref.{now}
-use Rattle.manager.proofs.EachCall.{board-call}
+use Rattle.offering.proofs.EachCall.{board-call}
 use borrow.Author.Needs.{needs}
-use Rattle.manager.proofs.calls.offer_board.Statement.{statement}
-use Rattle.manager.proofs.calls.offer_board.Tie as tie
+use Rattle.offering.proofs.offer_board.Statement.{statement}
+use Rattle.offering.proofs.offer_board.Tie as tie
 
 is-listed-requires : tie.Need-is-listed-requires
 is-listed-requires c κs = search needs

@@ -1,4 +1,4 @@
--- `manager::offer_block` meets its contract: the block call of crate `loading`, read as the rules' state. Assumes nothing.
+-- `offering::offer_block` meets its contract: the block call of crate `loading`, read as the rules' state. Assumes nothing.
 use mathlib.Core.Path.{ap, _∙_}
 use mathlib.Core.List.{List}
 use Prim.Native.Nat.{ℕ}
@@ -7,10 +7,10 @@ use Rattle.rules.specs.declared.Verdict.{Verdict}
 use Rattle.rules.specs.Block.{reportedHost}
 use Rattle.board.specs.Memory.{boardIn}
 use Rattle.records.specs.Memory.{stateIn}
-use Rattle.manager.proofs.EachCall.{block-state}
+use Rattle.offering.proofs.EachCall.{block-state}
 use borrow.Author.Needs.{needs}
-use Rattle.manager.proofs.calls.offer_block.Statement.{statement}
-use Rattle.manager.proofs.calls.offer_block.Tie as tie
+use Rattle.offering.proofs.offer_block.Statement.{statement}
+use Rattle.offering.proofs.offer_block.Tie as tie
 
 offer-block-requires : tie.Need-offer-block-requires
 offer-block-requires c κs = search needs

@@ -1,14 +1,14 @@
--- `manager::offer_list` meets its contract: the list call of crate `access`, read as the rules' state. Assumes nothing.
+-- `offering::offer_list` meets its contract: the list call of crate `loading`, read as the rules' state. Assumes nothing.
 use mathlib.Core.Path.{ap, _∙_}
 use mathlib.Core.List.{List}
 use Prim.Native.Nat.{ℕ}
 use denote.Ref.{now}
 use Rattle.board.specs.Memory.{boardIn}
 use Rattle.records.specs.Memory.{stateIn}
-use Rattle.manager.proofs.EachCall.{list-state}
+use Rattle.offering.proofs.EachCall.{list-state}
 use borrow.Author.Needs.{needs}
-use Rattle.manager.proofs.calls.offer_list.Statement.{statement}
-use Rattle.manager.proofs.calls.offer_list.Tie as tie
+use Rattle.offering.proofs.offer_list.Statement.{statement}
+use Rattle.offering.proofs.offer_list.Tie as tie
 
 offer-list-requires : tie.Need-offer-list-requires
 offer-list-requires c κs = search needs

@@ -4,8 +4,8 @@ use lib.ListN.{length}
 use denote.Ref.{now}
 use Rattle.manager.proofs.EachCall.{memory-length, message-call}
 use borrow.Author.Needs.{needs}
-use Rattle.manager.proofs.calls.message.Statement.{statement}
-use Rattle.manager.proofs.calls.message.Tie as tie
+use Rattle.manager.proofs.message.Statement.{statement}
+use Rattle.manager.proofs.message.Tie as tie
 
 decide-requires : tie.Need-decide-requires
 decide-requires c κs = search needs

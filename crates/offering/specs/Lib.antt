@@ -1,0 +1,2 @@
+-- What the offers promise.
+pub mod Calls
