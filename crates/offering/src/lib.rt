@@ -1,21 +1,11 @@
-// The start and the offers: the board call, the list call and the block call, over memory that the caller
-// lends. The start fills the board memory; access memory that is all zeros is a fresh manager's. Any
+// The offers: the board call, the list call and the block call, over memory that the caller lends. The
+// start (crate starting) fills the board memory; access memory that is all zeros is a fresh manager's. Any
 // content is a state.
-ghost use mathlib.Core.Path.{_≡_};
-ghost use Rattle.rules.specs.Description.{ours};
-ghost use Rattle.board.specs.Memory.{boardIn, boardBytes};
+ghost use Rattle.board.specs.Memory.{boardIn};
 ghost use Rattle.offering.specs.Calls.{BlockCall, BoardCall, ListCall};
 use access::is_listed;
 use rules::BlockReport;
 use rules::Verdict;
-
-// Fills the board memory with document 01's board, whatever it held. That board stands until a
-// description is taken.
-pub fn start(board: &mut [u8; 576])
-    ensures { λ _. ⌜ now (board .exit) ≡ boardBytes ours ⌝ }
-{
-    starting::start(board)
-}
 
 // Offers a board description. Before a list or a block is accepted a good one is taken, and its board
 // replaces the one before it whole; a refused one changes nothing.

@@ -13,7 +13,7 @@ use numbers::verdict_number;
 use offering::offer_block;
 use offering::offer_board;
 use offering::offer_list;
-use offering::start;
+use starting::start;
 
 // Fills the board memory with document 01's board, which stands until a description is taken.
 #[no_mangle]

@@ -58,7 +58,7 @@ fn main() {
     let mut words = [0u32; 255];
     let mut input = io::large_buffer();
     let mut output = io::large_buffer();
-    offering::start(&mut board);
+    starting::start(&mut board);
     let mut stand = Stand {
         held: 0,
         words: 0,
