@@ -2,7 +2,7 @@
 use Prim.Native.Nat.{ℕ, zero, suc, _+_, _≤_, _<_}
 use native.Mathlib.Omega.{arith}
 use mathlib.Core.Path.{_≡_, refl, sym, ap, _∙_}
-use mathlib.Core.Bool.{Bool, true, false, cond, _||_}
+use mathlib.Core.Bool.{Bool, true, false, cond, _||_, or-false}
 use mathlib.Core.List.{List, [], _∷_, _++_, map}
 use mathlib.Core.Logic.{⊎-elim}
 use lib.ListN.{length, getD, set}
@@ -15,7 +15,7 @@ use Rattle.rules.specs.Description.{Host, Processor, Description, isHost, numbe
 use Rattle.rules.proofs.Tests.{decide, clash, or-left, or-right, or-false-left, cond-true, cond-false}
 use Rattle.rules.proofs.Tables.{table-length}
 use Rattle.board.specs.Memory.{boardBytes}
-use Rattle.comparing.proofs.Noted.{any-last, or-false}
+use Rattle.comparing.proofs.Noted.{any-last}
 use Rattle.boards.specs.Filled.{putItem}
 use Rattle.boards.proofs.Lists.{place-kept, place-first, getD-last, getD-before, table-put}
 use Rattle.boards.proofs.Stores.{store-host, store-processor}

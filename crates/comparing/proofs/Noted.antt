@@ -4,7 +4,7 @@ use native.Mathlib.Nat.{add-zero}
 use native.Mathlib.Numerals.{add-one}
 use native.Mathlib.Omega.{arith}
 use mathlib.Core.Path.{_≡_, refl, sym, ap, ap₂, _∙_}
-use mathlib.Core.Bool.{Bool, true, false, cond, not, _&&_, _||_, and-false}
+use mathlib.Core.Bool.{Bool, true, false, cond, not, _&&_, _||_, and-false, or-false}
 use mathlib.Core.List.{List, [], _∷_, _++_}
 use mathlib.Core.Logic.{⊎-elim}
 use lib.ListN.{length, length-append}
@@ -34,10 +34,6 @@ module _ (x y : Item) (b : Before) {mixes same : Bool} (mixed : mixes ≡ mixesC
   note-same one = rw (sym kind, sym mixed, one)
 
 -- ---- one more item listed
-
-pub or-false : (b : Bool) → (b || false) ≡ b
-or-false true = refl
-or-false false = refl
 
 -- a test over one element more
 pub any-last : {A : Type 0} (test : A → Bool) (xs : List A) (y : A) → anyOf test (xs ++ (y ∷ [])) ≡ (anyOf test xs || test y)

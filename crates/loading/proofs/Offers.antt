@@ -2,7 +2,7 @@
 -- nothing.
 use Prim.Native.Nat.{ℕ}
 use mathlib.Core.Path.{_≡_, refl, sym, ap, _∙_}
-use mathlib.Core.Bool.{Bool, true, cond}
+use mathlib.Core.Bool.{Bool, true}
 use mathlib.Core.List.{List}
 use mathlib.Core.Logic.{⊎-elim}
 use Rattle.rules.specs.declared.Verdict.{Verdict}
@@ -18,7 +18,7 @@ use Rattle.access.specs.Memory.{listedIn, entriesIn, someList, setupIn, keptSet
 use Rattle.access.proofs.Kept.{listed-some}
 use Rattle.access_stores.specs.InForce.{inForce}
 use Rattle.access_stores.proofs.Words.{words-read}
-use Rattle.loading.specs.Loaded.{accessAfter, accessAfterBlock}
+use Rattle.loading.specs.Loaded.{accessBy, accessAfter, accessAfterBlock}
 
 -- the set-up after an offer of a list, alone or in a block, of a state with this memory
 module _ (b : Board) (m : List ℕ) (records : Records) where
@@ -36,8 +36,8 @@ module _ (b : Board) (m : List ℕ) (records : Records) where
   -- where the offer comes to this verdict, and puts this list in force
   after-offer : (o : Offer) (bytes : List ℕ) (v : Verdict) → verdictTo before o ≡ v
       → record { board = b; source = someList true; entries = entriesOf b bytes } ≡ keptSetup (taken before o .setup)
-      → setupIn b (cond (accepted v) (inForce b bytes) m) ≡ keptSetup (afterOffer before o .setup)
-  unfolding afterOffer
+      → setupIn b (accessBy v b m bytes) ≡ keptSetup (afterOffer before o .setup)
+  unfolding accessBy afterOffer
   after-offer o bytes v told takes =
       let same = ap accepted told in
       ⊎-elim
@@ -53,9 +53,19 @@ module _ (b : Board) (m : List ℕ) (records : Records) where
   unfolding verdictTo setupIn
   verdict-told bytes = ap (λ (x : Bool). verdictOf b x bytes) (listed-some (listedIn m))
 
+  -- an accepted list is in force, alone or in a block
+  list-takes : (bytes : List ℕ) → record { board = b; source = someList true; entries = entriesOf b bytes } ≡ keptSetup (taken before (list bytes) .setup)
+  unfolding taken setupIn keptSetup listed
+  list-takes bytes = refl
+
+  block-takes : (major minor : ℕ) (bytes : List ℕ)
+      → record { board = b; source = someList true; entries = entriesOf b (listPart bytes) } ≡ keptSetup (taken before (block major minor bytes) .setup)
+  unfolding taken setupIn keptSetup listed
+  block-takes major minor bytes = refl
+
   pub setup-after : (bytes : List ℕ) → setupIn b (accessAfter b m bytes) ≡ keptSetup (afterOffer before (list bytes) .setup)
-  unfolding accessAfter taken setupIn keptSetup listed
-  setup-after bytes = after-offer (list bytes) bytes (verdictOf b (listedIn m) bytes) (verdict-told bytes) refl
+  unfolding accessAfter
+  setup-after bytes = after-offer (list bytes) bytes (verdictOf b (listedIn m) bytes) (verdict-told bytes) (list-takes bytes)
 
   pub block-told : (major minor : ℕ) (bytes : List ℕ) → verdictTo before (block major minor bytes) ≡ blockVerdict b (listedIn m) major minor bytes
   unfolding verdictTo setupIn
@@ -63,9 +73,15 @@ module _ (b : Board) (m : List ℕ) (records : Records) where
 
   pub setup-after-block : (major minor : ℕ) (bytes : List ℕ)
       → setupIn b (accessAfterBlock b m major minor bytes) ≡ keptSetup (afterOffer before (block major minor bytes) .setup)
-  unfolding accessAfterBlock taken setupIn keptSetup listed
+  unfolding accessAfterBlock
   setup-after-block major minor bytes =
-      after-offer (block major minor bytes) (listPart bytes) (blockVerdict b (listedIn m) major minor bytes) (block-told major minor bytes) refl
+      after-offer (block major minor bytes) (listPart bytes) (blockVerdict b (listedIn m) major minor bytes) (block-told major minor bytes)
+      (block-takes major minor bytes)
+
+-- two verdicts that accept leave the same memory
+by-accepted : (b : Board) (m bytes : List ℕ) (v w : Verdict) → accepted v ≡ true → accepted w ≡ true → accessBy v b m bytes ≡ accessBy w b m bytes
+unfolding accessBy
+by-accepted b m bytes v w one other = cond-true (inForce b bytes) m one ∙ sym (cond-true (inForce b bytes) m other)
 
 -- an accepted block leaves the memory that its lone list would
 pub block-memory : (b : Board) (m : List ℕ) (major minor : ℕ) (bytes : List ℕ) → accepted (blockVerdict b (listedIn m) major minor bytes) ≡ true
@@ -76,4 +92,4 @@ block-memory b m major minor bytes ok =
     let alone : accepted (verdictOf b (listedIn m) (listPart bytes)) ≡ true =
     ap (λ (x : Bool). accepted (verdictOf b x (listPart bytes))) (good .nothing-before) ∙ good .list-good
     in
-    cond-true (inForce b (listPart bytes)) m ok ∙ sym (cond-true (inForce b (listPart bytes)) m alone)
+    by-accepted b m (listPart bytes) (blockVerdict b (listedIn m) major minor bytes) (verdictOf b (listedIn m) (listPart bytes)) ok alone

@@ -16,7 +16,7 @@ use Rattle.rules.specs.Block.{otpTable, blockTable, blockVerdict}
 use Rattle.rules.specs.Bench.{benchList}
 use Rattle.rules.specs.Blocks.{benchBlock}
 use Rattle.access.specs.Memory.{listedIn}
-use Rattle.loading.specs.Loaded.{accessAfter, accessAfterBlock}
+use Rattle.loading.specs.Loaded.{accessBy, accessAfter, accessAfterBlock}
 use Rattle.board.specs.Memory.{boardBytes}
 use Rattle.starting.proofs.Started.{start-read}
 use Rattle.offering.specs.Calls.{BlockCall}
@@ -51,5 +51,5 @@ block-loaded =
 
 -- the memories are those that the lone list leaves
 pub same-memories : blocked-memories ≡ listed-memories
-unfolding tableOf ours ourDescription listsProcessor markIn rowIn classIn sharedCluster sharedIn homeIn boardOf firstOf anyOf boardHost activeHost placeOf rowOf onBoard partsOf namedIn entryTable inTurn contentTable listTable verdictOf supervisorOf meets onLoop firstHost loopHost pairTable hierarchyTable otpTable blockTable blockVerdict listedIn accepted accessAfter accessAfterBlock
+unfolding tableOf ours ourDescription listsProcessor markIn rowIn classIn sharedCluster sharedIn homeIn boardOf firstOf anyOf boardHost activeHost placeOf rowOf onBoard partsOf namedIn entryTable inTurn contentTable listTable verdictOf supervisorOf meets onLoop firstHost loopHost pairTable hierarchyTable otpTable blockTable blockVerdict listedIn accepted accessBy accessAfter accessAfterBlock
 same-memories = refl

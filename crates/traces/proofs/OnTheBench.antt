@@ -27,7 +27,7 @@ use Rattle.rules.specs.Cluster.{clusterList}
 use Rattle.noninterference.specs.Statement.{clustersWhole}
 use Rattle.access.specs.Memory.{listedIn, entryAt, entriesIn, someList, setupIn}
 use Rattle.access_stores.specs.InForce.{wordsOf}
-use Rattle.loading.specs.Loaded.{accessAfter}
+use Rattle.loading.specs.Loaded.{accessBy, accessAfter}
 use Rattle.records.specs.Memory.{recordsIn, stateIn}
 use Rattle.board.specs.Memory.{boardBytes}
 use Rattle.starting.proofs.Started.{start-read}
@@ -82,7 +82,7 @@ request-step =
 
 bench-answered : MessageCall ours (accessAfter ours (replicate 129 0) benchList) (replicate 288 0) asked heldRecords (header 0x00 0xC0 3 2 ++ replicate 21 0xFF)
     (record { outcome = Ok; checks = 0; micros = 0; written = 8; role = Master })
-unfolding tableOf ours ourDescription listsProcessor markIn rowIn classIn sharedCluster sharedIn homeIn boardOf firstOf anyOf boardHost activeHost placeOf rowOf onBoard classAt classOf homeAt noEntry partsOf namedIn entryTable inTurn contentTable listTable verdictOf accepted entryIn withPart withParts noEntries entriesOf hasEntry namesHost roleTable roleOf permitted answerAsked kindOf waitIn subjectOf senderWrong wordsMissing waitFailed admission byWords outcomeTable outcomeOf carriedOut silent countsFor oneMore tallyAfter talliesAfter recordAfter ackBytes bytesFor answerBytes answerOf waited tellsRole reportOf listed freeOwn noTallies entryOf recordIn recordOf viewOf putIn stored afterMessage answerTo next listedIn entryAt entriesIn someList setupIn wordsOf accessAfter recordsIn stateIn
+unfolding tableOf ours ourDescription listsProcessor markIn rowIn classIn sharedCluster sharedIn homeIn boardOf firstOf anyOf boardHost activeHost placeOf rowOf onBoard classAt classOf homeAt noEntry partsOf namedIn entryTable inTurn contentTable listTable verdictOf accepted entryIn withPart withParts noEntries entriesOf hasEntry namesHost roleTable roleOf permitted answerAsked kindOf waitIn subjectOf senderWrong wordsMissing waitFailed admission byWords outcomeTable outcomeOf carriedOut silent countsFor oneMore tallyAfter talliesAfter recordAfter ackBytes bytesFor answerBytes answerOf waited tellsRole reportOf listed freeOwn noTallies entryOf recordIn recordOf viewOf putIn stored afterMessage answerTo next listedIn entryAt entriesIn someList setupIn wordsOf accessBy accessAfter recordsIn stateIn
 bench-answered = record { report = refl; records = refl; buffer = refl }
 
 pub bench-trace : Trace listed-memories (request-step ∷ [])

@@ -7,7 +7,6 @@ use Rattle.rules.proofs.Verdicts.{no-fault}
 use Rattle.rules.proofs.Blocks.{list-length}
 use Rattle.board.specs.Memory.{boardIn}
 use Rattle.blocks.proofs.Tables.{accepted-size}
-use Rattle.access_stores.specs.InForce.{inForce}
 use Rattle.access_stores.proofs.Words.{loaded}
 use Rattle.loading.specs.Loaded.{accessAfterBlock}
 use Rattle.loading.proofs.Verdicts.{refused, taken, verdict-read}
@@ -36,7 +35,7 @@ returns c =
       told,
       (
         c .before .judge .ensures .1,
-        refused (inForce (boardIn (given .board .now)) (listPart (given .block .now))) m told (λ good. no-fault (rw good at (c .match .keys2))),
+        refused _ m (listPart (given .block .now)) told (λ good. no-fault (rw good at (c .match .keys2))),
       ),
     )
 
@@ -70,7 +69,7 @@ returns-2 c =
       (
         judged .1,
         c .load .ensures ∙ loaded _ m (listPart (given .block .now)) (list-length (given .block .now) size)
-            ∙ taken (inForce (boardIn (given .board .now)) (listPart (given .block .now))) m told good,
+            ∙ taken _ m (listPart (given .block .now)) told good,
       ),
     )
 

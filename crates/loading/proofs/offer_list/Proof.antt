@@ -2,10 +2,9 @@
 use mathlib.Core.Path.{sym, _∙_}
 use mathlib.Core.Bool.{Bool}
 use Rattle.rules.specs.AccessList.{verdictOf}
-use Rattle.access_stores.specs.InForce.{inForce}
 use Rattle.access_stores.proofs.Words.{loaded}
-use Rattle.loading.specs.Loaded.{accessAfter}
 use Rattle.board.specs.Memory.{boardIn}
+use Rattle.loading.specs.Loaded.{accessAfter}
 use Rattle.loading.proofs.Verdicts.{refused, taken, verdict-read}
 use Rattle.rules.proofs.Verdicts.{no-fault}
 use Rattle.lists.proofs.Verdicts.{accepted-length}
@@ -28,7 +27,7 @@ returns c =
     let given = c .before .before .before .before .before .before .args in
     let m = given .access .now in
     let told = verdict-read (λ (x : Bool). verdictOf (boardIn (given .board .now)) x (given .list .now)) m (c .before .judge .ensures) (c .before .before .is-listed .ensures) in
-    (told, refused (inForce (boardIn (given .board .now)) (given .list .now)) m told (λ good. no-fault (rw good at (c .match .keys2))))
+    (told, refused _ m (given .list .now) told (λ good. no-fault (rw good at (c .match .keys2))))
 
 load-requires : tie.Need-load-requires
 load-requires c κs = search needs
@@ -45,7 +44,7 @@ returns-2 c =
     in (
       sym good ∙ told,
       c .load .ensures ∙ loaded _ m (given .list .now) (accepted-length _ _ (given .list .now) judged good)
-          ∙ taken (inForce (boardIn (given .board .now)) (given .list .now)) m told good,
+          ∙ taken _ m (given .list .now) told good,
     )
 
 pub offer-list-spec : {M : Type 1} → statement M
