@@ -1,5 +1,9 @@
 // The access memory, asked whether a list was accepted, alone or in a block, and for the role of a host at a
 // row. Its layout is specs/Memory.antt; any content of it is a state. Hosts are 16-bit numbers throughout.
+mod store;
+
+pub use store::load;
+
 ghost use mathlib.Core.Path.{_≡_};
 ghost use mathlib.Core.Bool.{cond};
 ghost use lib.ListN.{getD};

@@ -1,6 +1,13 @@
 // The board in force, read out of the lent board memory: its hosts, its processors with their rows,
 // classes and homes; and the flag bits that may be named. Each function gives what the definition of the
 // same name in rules/specs/Board.antt gives, for any content of the memory and any number.
+mod clearing;
+
+pub use clearing::CLASSES;
+pub use clearing::HOMES;
+pub use clearing::PLACES;
+pub use clearing::clear;
+
 ghost use Prim.Native.Nat.{_<_};
 ghost use mathlib.Core.Path.{_≡_};
 ghost use Rattle.rules.specs.Board.{boardHost, activeHost, rowOf, classAt, homeAt, maskOf};

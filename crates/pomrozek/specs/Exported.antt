@@ -12,10 +12,10 @@ use Rattle.rules.specs.Role.{roleNumber}
 use Rattle.rules.specs.Outcome.{outcomeNumber}
 use Rattle.rules.specs.Answer.{bufferAfter}
 use Rattle.rules.specs.Call.{Answer, answerTo, Lent, queryOf, message, next}
-use Rattle.boards.specs.Filled.{boardAfter}
+use Rattle.board_setup.specs.Filled.{boardAfter}
 use Rattle.access.specs.Memory.{listedIn}
-use Rattle.loading.specs.Loaded.{accessAfter, accessAfterBlock}
-use Rattle.records.specs.Memory.{recordsIn, stateIn}
+use Rattle.call_offer.specs.Loaded.{accessAfter, accessAfterBlock}
+use Rattle.record.specs.Memory.{recordsIn, stateIn}
 
 pub record ExportedBoard (board access bytes board′ : List ℕ) (r : ℕ) : Type 0 where
   pub verdict : r ≡ verdictNumber (boardVerdict (listedIn access) bytes)

@@ -4,16 +4,16 @@ ghost use mathlib.Core.Path.{_≡_};
 ghost use Prim.Native.Nat.{_≤_};
 ghost use Rattle.rules.specs.Description.{ours};
 ghost use Rattle.board.specs.Memory.{boardIn, boardBytes};
-ghost use Rattle.manager.specs.Calls.{lending};
+ghost use Rattle.call_message.specs.Calls.{lending};
 ghost use Rattle.pomrozek.specs.Exported.{ExportedBlock, ExportedBoard, ExportedList, ExportedMessage};
-use manager::message;
-use numbers::outcome_number;
-use numbers::role_number;
-use numbers::verdict_number;
-use offering::offer_block;
-use offering::offer_board;
-use offering::offer_list;
-use starting::start;
+use call_message::message;
+use result_numbers::outcome_number;
+use result_numbers::role_number;
+use result_numbers::verdict_number;
+use call_offer::offer_block;
+use call_offer::offer_board;
+use call_offer::offer_list;
+use board_setup::start;
 
 // Fills the board memory with document 01's board, which stands until a description is taken.
 #[no_mangle]

@@ -3,9 +3,9 @@
 // can say what is read or written, so what a read answered goes through a function that promises where
 // the bytes end.
 use io::write_all;
-use playback::Stand;
-use playback::play_held;
-use texts::cut_line;
+use recording_playback::Stand;
+use recording_playback::play_held;
+use recording_texts::cut_line;
 ghost use Prim.Native.Nat.{_+_, _≤_};
 ghost use lib.ListN.{length};
 
@@ -58,7 +58,7 @@ fn main() {
     let mut words = [0u32; 255];
     let mut input = io::large_buffer();
     let mut output = io::large_buffer();
-    starting::start(&mut board);
+    board_setup::start(&mut board);
     let mut stand = Stand {
         held: 0,
         words: 0,

@@ -20,7 +20,7 @@ use Rattle.rules.proofs.Sound.{block-as-list}
 use Rattle.rules.proofs.Tests.{decide, cond-true, cond-false}
 use Rattle.access.specs.Memory.{someList, keptSetup}
 use Rattle.access.proofs.Kept.{keeps-listed}
-use Rattle.records.specs.Memory.{kept}
+use Rattle.record.specs.Memory.{kept}
 
 view-kept : (s : State) (p : ℕ) → viewOf (kept s) p ≡ viewOf s p
 unfolding viewOf kept keptSetup entryOf recordOf

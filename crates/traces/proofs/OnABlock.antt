@@ -16,11 +16,11 @@ use Rattle.rules.specs.Block.{otpTable, blockTable, blockVerdict}
 use Rattle.rules.specs.Bench.{benchList}
 use Rattle.rules.specs.Blocks.{benchBlock}
 use Rattle.access.specs.Memory.{listedIn}
-use Rattle.loading.specs.Loaded.{accessBy, accessAfter, accessAfterBlock}
+use Rattle.call_offer.specs.Loaded.{accessBy, accessAfter, accessAfterBlock}
 use Rattle.board.specs.Memory.{boardBytes}
-use Rattle.starting.proofs.Started.{start-read}
-use Rattle.offering.specs.Calls.{BlockCall}
-use Rattle.offering.proofs.EachCall.{block-state}
+use Rattle.board_setup.proofs.Started.{start-read}
+use Rattle.call_offer.specs.Calls.{BlockCall}
+use Rattle.call_offer.proofs.EachCall.{block-state}
 use Rattle.traces.specs.Trace.{Memories, started, blockStep, beforeOf, afterOf, Meets, done, step, Loads, Loaded}
 use Rattle.traces.proofs.OnTheBench.{listed-memories}
 

@@ -26,14 +26,14 @@ use Rattle.rules.specs.Bench.{benchList, header}
 use Rattle.rules.specs.Cluster.{clusterList}
 use Rattle.noninterference.specs.Statement.{clustersWhole}
 use Rattle.access.specs.Memory.{listedIn, entryAt, entriesIn, someList, setupIn}
-use Rattle.access_stores.specs.InForce.{wordsOf}
-use Rattle.loading.specs.Loaded.{accessBy, accessAfter}
-use Rattle.records.specs.Memory.{recordsIn, stateIn}
+use Rattle.access.specs.InForce.{wordsOf}
+use Rattle.call_offer.specs.Loaded.{accessBy, accessAfter}
+use Rattle.record.specs.Memory.{recordsIn, stateIn}
 use Rattle.board.specs.Memory.{boardBytes}
-use Rattle.starting.proofs.Started.{start-read}
-use Rattle.offering.specs.Calls.{ListCall}
-use Rattle.offering.proofs.EachCall.{list-state}
-use Rattle.manager.specs.Calls.{lending, MessageCall}
+use Rattle.board_setup.proofs.Started.{start-read}
+use Rattle.call_offer.specs.Calls.{ListCall}
+use Rattle.call_offer.proofs.EachCall.{list-state}
+use Rattle.call_message.specs.Calls.{lending, MessageCall}
 use Rattle.traces.specs.Trace.{Memories, started, Step, listStep, messageStep, beforeOf, afterOf, callOf, Meets, Trace, done, step, callsOf, Loads, Loaded}
 use Rattle.traces.specs.Statement.{CodeNoninterference}
 use Rattle.traces.specs.Warranty.{leftIn}

@@ -16,11 +16,11 @@ use Rattle.rules.specs.Boards.{packBytes, packList}
 use Rattle.noninterference.specs.Statement.{clustersWhole}
 use Rattle.board.specs.Memory.{boardIn, boardBytes}
 use Rattle.board.proofs.Read.{board-back}
-use Rattle.boards.specs.Filled.{boardAfter}
+use Rattle.board_setup.specs.Filled.{boardAfter}
 use Rattle.access.specs.Memory.{listedIn}
-use Rattle.loading.specs.Loaded.{accessAfter}
-use Rattle.offering.specs.Calls.{BoardCall, ListCall}
-use Rattle.offering.proofs.EachCall.{board-call, list-state}
+use Rattle.call_offer.specs.Loaded.{accessAfter}
+use Rattle.call_offer.specs.Calls.{BoardCall, ListCall}
+use Rattle.call_offer.proofs.EachCall.{board-call, list-state}
 use Rattle.traces.specs.Trace.{Memories, started, boardStep, listStep, beforeOf, afterOf, Meets, done, step, Loads, Loaded}
 use Rattle.traces.specs.Statement.{CodeNoninterference}
 use Rattle.traces.proofs.Theorem.{of-the-code}

@@ -26,11 +26,11 @@ use Rattle.rules.proofs.Sound.{offer-kept as kept-by-offer, first-accepted, blo
 use Rattle.noninterference.specs.Statement.{clustersWhole, loads, listOf, answers, Noninterference, boardLeft}
 use Rattle.noninterference.proofs.Theorem.{loaded-on, listed-clusters, named-all, no-trace}
 use Rattle.board.specs.Memory.{boardIn}
-use Rattle.starting.proofs.Started.{start-read}
+use Rattle.board_setup.proofs.Started.{start-read}
 use Rattle.access.specs.Memory.{someList, setupIn, keptSetup}
-use Rattle.loading.proofs.Offers.{verdict-told, block-told}
-use Rattle.records.specs.Memory.{recordAt, recordsIn, stateIn, kept}
-use Rattle.records.proofs.LentMemory.{zeros-fresh}
+use Rattle.call_offer.proofs.Offers.{verdict-told, block-told}
+use Rattle.record.specs.Memory.{recordAt, recordsIn, stateIn, kept}
+use Rattle.record.proofs.LentMemory.{zeros-fresh}
 use Rattle.traces.specs.Trace.{Memories, started, Step, boardStep, listStep, blockStep, messageStep, beforeOf, afterOf, callOf, Meets, Trace, step, endOf, callsOf, Loads, Loaded}
 use Rattle.traces.specs.Statement.{setupOf, given, OfTheCode, OnEveryDescription}
 use Rattle.traces.proofs.Kept.{record-kept, verdict-kept, block-kept}

@@ -21,7 +21,7 @@ use Rattle.rules.proofs.Warranty.{warranted, from-none}
 use Rattle.board.specs.Memory.{boardIn}
 use Rattle.access.specs.Memory.{listedIn, entriesIn, someList, setupIn, keptSetup}
 use Rattle.access.proofs.Kept.{listed-some}
-use Rattle.records.specs.Memory.{ownAt, recordsIn, stateIn, kept}
+use Rattle.record.specs.Memory.{ownAt, recordsIn, stateIn, kept}
 use Rattle.traces.specs.Trace.{Memories, Step, Trace, endOf, callsOf}
 use Rattle.traces.specs.Warranty.{leftIn, WarrantyOfTheCode, CountableIn, FromAnyMemories}
 use Rattle.traces.proofs.Steps.{Holds}

@@ -18,7 +18,7 @@ use Rattle.rules.specs.State.{Setup, fresh}
 use Rattle.rules.specs.Call.{list, afterOffer, Answer, Lent, queryOf}
 use Rattle.rules.specs.Sequence.{freeOrPermitted}
 use Rattle.noninterference.specs.Statement.{clustersWhole, clustersListed, insider, aboutChosen, picked, picks}
-use Rattle.records.specs.Memory.{recordAt}
+use Rattle.record.specs.Memory.{recordAt}
 use Rattle.traces.specs.Trace.{Memories, Step, boardStep, listStep, blockStep, messageStep, Trace, endOf, callsOf, Loaded}
 
 -- what the list sets on a board, alone or in a block: who is permitted for which processor

@@ -13,8 +13,8 @@ use Rattle.rules.specs.Description.{ours}
 use Rattle.rules.specs.Block.{listPart}
 use Rattle.rules.specs.Call.{board, list, block, Lent, Call, offer, message}
 use Rattle.board.specs.Memory.{boardIn, boardBytes}
-use Rattle.offering.specs.Calls.{BlockCall, BoardCall, ListCall}
-use Rattle.manager.specs.Calls.{MessageCall}
+use Rattle.call_offer.specs.Calls.{BlockCall, BoardCall, ListCall}
+use Rattle.call_message.specs.Calls.{MessageCall}
 
 -- the board memory, the access memory and the record memory
 pub record Memories : Type 0 where

@@ -14,7 +14,7 @@ use Rattle.rules.specs.Call.{list, afterOffer}
 use Rattle.rules.specs.Warranty.{countOf, DifferenceTold}
 use Rattle.board.specs.Memory.{boardIn}
 use Rattle.access.specs.Memory.{listedIn}
-use Rattle.records.specs.Memory.{recordAt, stateIn}
+use Rattle.record.specs.Memory.{recordAt, stateIn}
 use Rattle.traces.specs.Trace.{Memories, Step, Trace, endOf, callsOf, Loaded}
 
 -- what steps from memories m leave in the record memory of processor p

@@ -8,7 +8,7 @@ use lib.ListN.{length, set, length-set}
 use denote.Ref.{now}
 use Rattle.rules.specs.declared.Report.{Report}
 use Rattle.rules.specs.Outcome.{outcomeNumber}
-use Rattle.manager.proofs.EachCall.{written-short}
+use Rattle.call_message.proofs.EachCall.{written-short}
 use Rattle.pomrozek.specs.Exported.{reportWords}
 use borrow.Author.Needs.{needs}
 use Rattle.pomrozek.proofs.pomrozek_message.Statement.{statement}

@@ -1,0 +1,105 @@
+-- `access_hierarchy::fill` meets its contract. The loop's invariant: the table has the supervisors of the entries from e on. Assumes nothing.
+use Prim.Native.Nat.{_≤_, _-_}
+use Prim.Native.Nat.{ℕ}
+use mathlib.Core.Path.{_≡_, ap, _∙_}
+use mathlib.Core.List.{List}
+use lib.ListN.{set}
+use native.Mathlib.Omega.{arith}
+use borrow.Author.Needs.{needs}
+use Rattle.rules.specs.Table.{tableOf}
+use Rattle.rules.specs.Substructure.{partsOf, partsFrom}
+use Rattle.rules.specs.Hierarchy.{supervisorOf}
+use Rattle.access_hierarchy.specs.Supervisors.{supervisorsIn}
+use Rattle.access_hierarchy.proofs.Tables.{none-filled, fill-unused, fill-used}
+use Rattle.access_hierarchy.proofs.loops.fill.Statement.{statement}
+use Rattle.access_hierarchy.proofs.loops.fill.Tie as tie
+
+abbrev Inv-loop : tie.InvT-loop
+Inv-loop above₀ bytes e₀ above e = (e ≤ 32) × (above ≡ tableOf (supervisorOf (partsFrom 2 bytes e (32 - e))) 0 256)
+
+abbrev μ-loop : tie.MeasureT-loop
+μ-loop above₀ bytes e₀ above e = e
+
+loop-holds : tie.Need-loop-holds Inv-loop μ-loop
+unfolding partsOf
+loop-holds c =
+    (omega arith, c .before .pre ∙ none-filled)
+
+sub-e : tie.Need-sub-e Inv-loop μ-loop
+sub-e c = search needs
+
+mul-byte-at : tie.Need-mul-byte-at Inv-loop μ-loop
+mul-byte-at c = search needs
+
+add-byte-at : tie.Need-add-byte-at Inv-loop μ-loop
+add-byte-at c = search needs
+
+byte-at-requires : tie.Need-byte-at-requires Inv-loop μ-loop
+byte-at-requires c κs = search needs
+
+mul-byte-at-2 : tie.Need-mul-byte-at-2 Inv-loop μ-loop
+mul-byte-at-2 c = search needs
+
+add-byte-at-2 : tie.Need-add-byte-at-2 Inv-loop μ-loop
+add-byte-at-2 c = search needs
+
+byte-at-requires-2 : tie.Need-byte-at-requires-2 Inv-loop μ-loop
+byte-at-requires-2 c κs = search needs
+
+cast-above : tie.Need-cast-above Inv-loop μ-loop
+cast-above c = search needs
+
+element-write-above : tie.Need-element-write-above Inv-loop μ-loop
+element-write-above c = search needs
+
+loop-less : tie.Need-loop-less Inv-loop μ-loop
+loop-less c = search needs
+
+loop-again : tie.Need-loop-again Inv-loop μ-loop
+loop-again c =
+    let given = c .before .before .before .before .before .before .args in
+    let at = c .before .before .before .before .loop in
+    let e = at .e - 1 in (
+      omega arith,
+      ap (λ (table : List ℕ). set table (c .before .before .byte-at .result) (c .byte-at2 .result)) (at .inv .1)
+          ∙ fill-used (given .bytes .now) e (at .e) (omega arith) (omega arith) (c .before .before .byte-at .ensures) (c .before .if1 .taken) (c .byte-at2 .ensures),
+    )
+
+loop-less-2 : tie.Need-loop-less-2 Inv-loop μ-loop
+loop-less-2 c = search needs
+
+loop-again-2 : tie.Need-loop-again-2 Inv-loop μ-loop
+loop-again-2 c =
+    let given = c .before .before .before .before .before .args in
+    let at = c .before .before .before .loop in
+    let e = at .e - 1 in (
+      omega arith,
+      at .inv .1 ∙ fill-unused (given .bytes .now) e (at .e) (omega arith) (omega arith) (c .before .byte-at .ensures) (c .if1 .left),
+    )
+
+returns : tie.Need-returns Inv-loop μ-loop
+unfolding supervisorsIn
+returns c =
+    let none : c .before .loop .e ≡ 0 = omega arith in c .before .loop .inv .1 ∙ rw none
+
+pub fill-spec : {M : Type 1} → statement M
+fill-spec =
+    tie.close
+    (tie.spec
+    Inv-loop
+    μ-loop
+    loop-holds
+    sub-e
+    mul-byte-at
+    add-byte-at
+    byte-at-requires
+    mul-byte-at-2
+    add-byte-at-2
+    byte-at-requires-2
+    cast-above
+    element-write-above
+    loop-less
+    loop-again
+    loop-less-2
+    loop-again-2
+    returns)

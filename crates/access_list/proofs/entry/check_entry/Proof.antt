@@ -1,0 +1,64 @@
+-- `access_list::check_entry` meets its contract: each return is a line of the table, after those above it. Assumes nothing.
+use Rattle.rules.specs.Table.{firstOf}
+use Rattle.access_list.specs.Entries.{faultOf}
+use Rattle.access_list.proofs.Faults.{off-board, on-board, master-test}
+use borrow.Author.Needs.{needs}
+use Rattle.access_list.proofs.entry.check_entry.Statement.{statement}
+use Rattle.access_list.proofs.entry.check_entry.Tie as tie
+
+byte-at-requires : tie.Need-byte-at-requires
+byte-at-requires c κs = search needs
+
+row-of-requires : tie.Need-row-of-requires
+row-of-requires c κs = search needs
+
+returns : tie.Need-returns
+unfolding faultOf firstOf
+returns c = rw (off-board _ (c .before .row-of .ensures) (c .before .before .byte-at .ensures) (c .if1 .taken))
+
+returns-2 : tie.Need-returns-2
+unfolding faultOf firstOf
+returns-2 c =
+    rw (
+      on-board _ (c .before .before .row-of .ensures) (c .before .before .before .byte-at .ensures) (c .before .if1 .left),
+      c .if2 .taken,
+    )
+
+u16-at-requires : tie.Need-u16-at-requires
+u16-at-requires c κs = search needs
+
+is-active-requires : tie.Need-is-active-requires
+is-active-requires c κs = search needs
+
+returns-3 : tie.Need-returns-3
+unfolding faultOf firstOf
+returns-3 c =
+    let named = c .before .before .before .before in
+    rw (
+      on-board _ (named .before .row-of .ensures) (named .before .before .byte-at .ensures) (named .if1 .left),
+      c .before .before .before .if2 .left,
+      master-test _ (c .before .is-active .ensures) (c .before .before .u16-at .ensures) (c .if3 .taken),
+    )
+
+returns-4 : tie.Need-returns-4
+unfolding faultOf firstOf
+returns-4 c =
+    let named = c .before .before .before .before in
+    rw (
+      on-board _ (named .before .row-of .ensures) (named .before .before .byte-at .ensures) (named .if1 .left),
+      c .before .before .before .if2 .left,
+      master-test _ (c .before .is-active .ensures) (c .before .before .u16-at .ensures) (c .if3 .left),
+    )
+
+pub check-entry-spec : {M : Type 1} → statement M
+check-entry-spec =
+    tie.close
+    (tie.spec
+    byte-at-requires
+    row-of-requires
+    returns
+    returns-2
+    u16-at-requires
+    is-active-requires
+    returns-3
+    returns-4)

@@ -1,0 +1,79 @@
+-- `access_list::named_before` meets its contract. The loop's invariant: none of the entries passed has the number, so the answer is
+-- that of the entries that are left. Assumes nothing.
+use Prim.Native.Nat.{_*_, _≤_, _-_}
+use mathlib.Core.Path.{_≡_, refl, sym, _∙_}
+use native.Mathlib.Omega.{arith}
+use borrow.Author.Needs.{needs}
+use Rattle.access_list.specs.Entries.{writtenBefore}
+use Rattle.access_list.proofs.Faults.{written-here, written-passed, place-small}
+use Rattle.access_list.proofs.entry.named_before.Statement.{statement}
+use Rattle.access_list.proofs.entry.named_before.Tie as tie
+
+abbrev Inv-loop : tie.InvT-loop
+Inv-loop bytes width e number i₀ i =
+    (i ≤ 255) × (writtenBefore width bytes e number ≡ writtenBefore width bytes i number)
+
+abbrev μ-loop : tie.MeasureT-loop
+μ-loop bytes width e number i₀ i = i
+
+loop-holds : tie.Need-loop-holds Inv-loop μ-loop
+loop-holds c = (omega arith, refl)
+
+sub-i : tie.Need-sub-i Inv-loop μ-loop
+sub-i c = omega arith
+
+mul-byte-at : tie.Need-mul-byte-at Inv-loop μ-loop
+mul-byte-at c =
+    let given = c .before .before .before .args in
+    let small : given .width * (c .before .loop .i - 1) ≤ 65025 = place-small (given .width) (c .before .loop .i - 1) (omega arith) (omega arith) in
+    omega arith
+
+add-byte-at : tie.Need-add-byte-at Inv-loop μ-loop
+add-byte-at c =
+    let given = c .before .before .before .args in
+    let small : given .width * (c .before .loop .i - 1) ≤ 65025 = place-small (given .width) (c .before .loop .i - 1) (omega arith) (omega arith) in
+    omega arith
+
+byte-at-requires : tie.Need-byte-at-requires Inv-loop μ-loop
+byte-at-requires c κs = search needs
+
+returns : tie.Need-returns Inv-loop μ-loop
+returns c =
+    let i = c .before .before .before .loop .i in
+    let given = c .before .before .before .before .before .args in
+    sym
+    (c .before .before .before .loop .inv .1
+    ∙ written-here (given .width) (given .bytes .now) i (i - 1) (given .number) (omega arith) (c .before .byte-at .ensures) (c .if1 .taken))
+
+loop-less : tie.Need-loop-less Inv-loop μ-loop
+loop-less c = omega arith
+
+loop-again : tie.Need-loop-again Inv-loop μ-loop
+loop-again c =
+    let i = c .before .before .before .loop .i in
+    let given = c .before .before .before .before .before .args in (
+      omega arith,
+      c .before .before .before .loop .inv .1
+          ∙ written-passed (given .width) (given .bytes .now) i (i - 1) (given .number) (omega arith) (c .before .byte-at .ensures) (c .if1 .left),
+    )
+
+returns-2 : tie.Need-returns-2 Inv-loop μ-loop
+unfolding writtenBefore
+returns-2 c =
+    let none : c .before .loop .i ≡ 0 = omega arith in sym (c .before .loop .inv .1 ∙ rw none)
+
+pub named-before-spec : {M : Type 1} → statement M
+named-before-spec =
+    tie.close
+    (tie.spec
+    Inv-loop
+    μ-loop
+    loop-holds
+    sub-i
+    mul-byte-at
+    add-byte-at
+    byte-at-requires
+    returns
+    loop-less
+    loop-again
+    returns-2)

@@ -1,2 +1,0 @@
--- The access memory that a list in force leaves.
-pub mod InForce

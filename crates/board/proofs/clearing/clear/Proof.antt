@@ -1,0 +1,63 @@
+-- `board::clear` meets its contract. The loop's invariant: the first i bytes are those of a board with nothing listed. Assumes nothing.
+use Prim.Native.Nat.{ℕ, _-_, _≤_}
+use mathlib.Core.Path.{_≡_, refl, ap, _∙_}
+use mathlib.Core.List.{List, _++_}
+use native.Mathlib.Omega.{arith}
+use borrow.Author.Needs.{needs}
+use denote.Ref.{now}
+use lib.ListN.{length, set, take, drop, length-set}
+use Rattle.board.proofs.Cleared.{clearBytes, clear-next, clear-all}
+use Rattle.board.proofs.clearing.clear.Statement.{statement}
+use Rattle.board.proofs.clearing.clear.Tie as tie
+
+abbrev Inv-loop : tie.InvT-loop
+Inv-loop memory₀ i₀ memory i =
+    (i ≤ 576) × (length memory₀ ≡ 576) × (length memory ≡ 576) × (memory ≡ take i clearBytes ++ drop i memory₀)
+
+abbrev μ-loop : tie.MeasureT-loop
+μ-loop memory₀ i₀ memory i = 576 - i
+
+loop-holds : tie.Need-loop-holds Inv-loop μ-loop
+loop-holds c = (omega arith, search needs, search needs, refl)
+
+clear-byte-requires : tie.Need-clear-byte-requires Inv-loop μ-loop
+clear-byte-requires c κs = omega arith
+
+slice-write-memory : tie.Need-slice-write-memory Inv-loop μ-loop
+slice-write-memory c = omega arith
+
+add-i : tie.Need-add-i Inv-loop μ-loop
+add-i c = omega arith
+
+loop-less : tie.Need-loop-less Inv-loop μ-loop
+loop-less c = omega arith
+
+loop-again : tie.Need-loop-again Inv-loop μ-loop
+loop-again c =
+    let l = c .before .before .loop in
+    let held = now (c .before .before .before .before .args .board) in (
+      omega arith,
+      l .inv .1,
+      length-set (l .memory) (l .i) (c .clear-byte .result) ∙ l .inv .2,
+      ap (λ (m : List ℕ). set m (l .i) (c .clear-byte .result)) (l .inv .3)
+          ∙ clear-next held (l .i) (omega arith) (l .inv .1) (c .clear-byte .ensures),
+    )
+
+returns : tie.Need-returns Inv-loop μ-loop
+returns c =
+    let l = c .before .loop in
+    l .inv .3 ∙ clear-all (now (c .before .before .before .args .board)) (l .i) (l .inv .1) (omega arith)
+
+pub clear-spec : {M : Type 1} → statement M
+clear-spec =
+    tie.close
+    (tie.spec
+    Inv-loop
+    μ-loop
+    loop-holds
+    clear-byte-requires
+    slice-write-memory
+    add-i
+    loop-less
+    loop-again
+    returns)

@@ -1,0 +1,106 @@
+-- `board_description::judge` meets its contract. The loop's invariant: the cursor is at an item, and none of those before has a fault.
+-- Assumes nothing.
+use Prim.Native.Nat.{_-_}
+use mathlib.Core.Path.{sym, ap, _∙_}
+use mathlib.Core.Bool.{Bool}
+use native.Mathlib.Omega.{arith}
+use borrow.Author.Needs.{needs}
+use denote.Ref.{now}
+use lib.ListN.{length}
+use Rattle.rules.specs.Table.{firstOf}
+use Rattle.rules.specs.Description.{descriptionTable, boardVerdict}
+use Rattle.board_description.proofs.Fields.{field-some}
+use Rattle.board_description.proofs.Faults.{judged-is}
+use Rattle.rules.proofs.Verdicts.{no-fault}
+use Rattle.board_description.proofs.Verdicts.{Reached, reached-start, turn-bad, turn-good, end-verdict}
+use Rattle.board_description.proofs.judge.Statement.{statement}
+use Rattle.board_description.proofs.judge.Tie as tie
+
+abbrev Inv-loop : tie.InvT-loop
+Inv-loop listed description at₀ count₀ at count = Reached description at count
+
+abbrev μ-loop : tie.MeasureT-loop
+μ-loop listed description at₀ count₀ at count = length description - at
+
+returns : tie.Need-returns Inv-loop μ-loop
+unfolding boardVerdict descriptionTable firstOf
+returns c = rw (c .if1 .taken)
+
+loop-holds : tie.Need-loop-holds Inv-loop μ-loop
+loop-holds c = reached-start (now (c .before .before .args .description))
+
+item-at-requires : tie.Need-item-at-requires Inv-loop μ-loop
+item-at-requires c κs = search needs
+
+look-back-requires : tie.Need-look-back-requires Inv-loop μ-loop
+look-back-requires c κs = search needs
+
+fault-of-requires : tie.Need-fault-of-requires Inv-loop μ-loop
+fault-of-requires c κs = search needs
+
+enum-told : tie.Need-enum-told Inv-loop μ-loop
+enum-told c = c .match .keys1
+
+returns-2 : tie.Need-returns-2 Inv-loop μ-loop
+returns-2 c =
+    let l = c .before .before .before .before .before .loop in
+    let a = c .before .before .before .before .before .before .before .before .args in
+    sym
+    (ap (λ (b : Bool). boardVerdict b (now (a .description))) (c .before .before .before .before .before .before .if1 .left)
+    ∙ turn-bad (now (a .description)) (l .at) (l .count) (l .inv) (c .before .before .before .before .loop-test .taken)
+    (c .before .before .before .item-at .ensures) (judged-is (now (a .description)) (l .at) (l .count) _ (l .inv) (c .before .fault-of .ensures) (c .before .before .look-back .ensures))
+    (λ good. no-fault (rw good at (c .match .keys2))))
+
+field-size-requires : tie.Need-field-size-requires Inv-loop μ-loop
+field-size-requires c κs = search needs
+
+-- the item has no fault: the cursor goes on
+next : tie.Need-loop-again Inv-loop μ-loop
+next c =
+    let l = c .before .before .before .before .before .before .before .loop in
+    let a = c .before .before .before .before .before .before .before .before .before .before .args in
+    turn-good (now (a .description)) (l .at) (l .count) (l .inv) (c .before .before .before .before .before .before .loop-test .taken)
+    (c .before .before .before .before .before .item-at .ensures)
+    (sym (judged-is (now (a .description)) (l .at) (l .count) _ (l .inv) (c .before .before .before .fault-of .ensures) (c .before .before .before .before .look-back .ensures))
+    ∙ c .before .enum-told .given .1)
+    (c .field-size .ensures)
+
+add-at : tie.Need-add-at Inv-loop μ-loop
+add-at c = omega (arith, next c .within)
+
+add-count : tie.Need-add-count Inv-loop μ-loop
+add-count c = omega (arith, next c .within, next c .counted)
+
+loop-less : tie.Need-loop-less Inv-loop μ-loop
+loop-less c = omega (arith, next c .within, c .field-size .ensures, field-some (c .before .before .before .before .before .item-at .result))
+
+loop-again : tie.Need-loop-again Inv-loop μ-loop
+loop-again c = next c
+
+returns-3 : tie.Need-returns-3 Inv-loop μ-loop
+returns-3 c =
+    let l = c .before .loop in
+    let a = c .before .before .before .before .args in
+    sym
+    (ap (λ (b : Bool). boardVerdict b (now (a .description))) (c .before .before .if1 .left)
+    ∙ end-verdict (now (a .description)) (l .at) (l .count) (l .inv) (c .loop-test .left))
+
+pub judge-spec : {M : Type 1} → statement M
+judge-spec =
+    tie.close
+    (tie.spec
+    Inv-loop
+    μ-loop
+    returns
+    loop-holds
+    item-at-requires
+    look-back-requires
+    fault-of-requires
+    enum-told
+    returns-2
+    field-size-requires
+    add-at
+    add-count
+    loop-less
+    loop-again
+    returns-3)

@@ -1,6 +1,0 @@
--- What the proofs of this crate and of those above it share.
-pub mod Lists
-pub mod Stores
-pub mod Steps
-pub mod Rows
-pub mod Fills

@@ -1,0 +1,5 @@
+-- What the proofs of this crate share.
+-- What the proofs of this crate and of those above it share.
+pub mod Tables
+pub mod EachCall
+pub mod Types

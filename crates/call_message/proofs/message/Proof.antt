@@ -1,0 +1,32 @@
+-- `call_message::message` meets its contract: its steps, over the whole memories lent, are those of the message call. Assumes nothing.
+use mathlib.Core.Path.{_≡_, sym, ap, _∙_}
+use lib.ListN.{length}
+use denote.Ref.{now}
+use Rattle.call_message.proofs.EachCall.{memory-length, message-call}
+use borrow.Author.Needs.{needs}
+use Rattle.call_message.proofs.message.Statement.{statement}
+use Rattle.call_message.proofs.message.Tie as tie
+
+decide-requires : tie.Need-decide-requires
+decide-requires c κs = search needs
+
+write-answer-requires : tie.Need-write-answer-requires
+write-answer-requires c κs = search needs
+
+same-length : tie.Need-same-length
+same-length c = search needs
+
+returns : tie.Need-returns
+returns c =
+    let a = c .before .before .before .before .before .before .before .before .before .before .before .before .args in
+    let d = c .before .before .before .before .before .before in
+    let la : length (now (a .access)) ≡ 129 = search needs in
+    let left : length (d .decide .last .1 .1 .0) ≡ 288 = search needs in
+    let lm : length (now (a .records)) ≡ 288 = sym (memory-length _ _ _ (now (a .records)) _) ∙ sym (ap length (d .decide .ensures .records)) ∙ left in
+    message-call _ (now (a .access)) (now (a .records)) (a .channel) (now (a .message)) (now (a .status)) (now (a .answer)) la lm
+    (d .decide .result) (c .before .before .write-answer .result) _ _
+    (d .decide .ensures)
+    (c .before .before .write-answer .ensures)
+
+pub message-spec : {M : Type 1} → statement M
+message-spec = tie.close (tie.spec decide-requires write-answer-requires same-length returns)

@@ -1,2 +1,0 @@
--- The bytes of the cleared board memory.
-pub mod Cleared

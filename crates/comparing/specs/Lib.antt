@@ -1,2 +1,0 @@
--- What the items before an item say of it.
-pub mod Compared

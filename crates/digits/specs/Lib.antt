@@ -1,2 +1,0 @@
--- Numbers as digits.
-pub mod Digits

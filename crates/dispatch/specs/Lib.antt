@@ -1,2 +1,0 @@
--- The rows from the type on.
-pub mod Dispatched

@@ -1,2 +1,0 @@
--- One entry of an access list and the entries before it.
-pub mod Entries

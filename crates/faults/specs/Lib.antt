@@ -1,2 +1,0 @@
--- The faults of an item.
-pub mod Faults

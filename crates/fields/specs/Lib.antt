@@ -1,2 +1,0 @@
--- The fields of a recording.
-pub mod Fields

@@ -1,3 +1,0 @@
--- What the proofs of this crate and of those above it share.
-pub mod Fields
-pub mod Cursors

@@ -1,2 +1,0 @@
--- Where the items of a description begin, and what they list.
-pub mod Cursor

@@ -1,2 +1,0 @@
--- The line that a message prints.
-pub mod Lines

@@ -1,2 +1,0 @@
--- The steps of the judge of a list.
-pub mod Judged

@@ -1,2 +1,0 @@
--- What the list call leaves in the access memory.
-pub mod Loaded

@@ -1,3 +1,0 @@
--- What a message call decides, and what it promises.
-pub mod Decision
-pub mod Calls

@@ -1,0 +1,47 @@
+-- `message_answer::header` meets its contract. Assumes nothing.
+use borrow.Author.Needs.{needs}
+use Rattle.message_answer.proofs.bytes.header.Statement.{statement}
+use Rattle.message_answer.proofs.bytes.header.Tie as tie
+
+byte-at-requires : tie.Need-byte-at-requires
+byte-at-requires c κs = search needs
+
+byte-at-requires-2 : tie.Need-byte-at-requires-2
+byte-at-requires-2 c κs = search needs
+
+byte-at-requires-3 : tie.Need-byte-at-requires-3
+byte-at-requires-3 c κs = search needs
+
+byte-at-requires-4 : tie.Need-byte-at-requires-4
+byte-at-requires-4 c κs = search needs
+
+returns : tie.Need-returns
+returns c =
+    rw (
+      c .if1 .taken,
+      c .before .before .before .before .byte-at .ensures,
+      c .before .before .before .byte-at2 .ensures,
+      c .before .before .byte-at3 .ensures,
+      c .before .byte-at4 .ensures,
+    )
+
+returns-2 : tie.Need-returns-2
+returns-2 c =
+    rw (
+      c .if1 .left,
+      c .before .before .before .before .byte-at .ensures,
+      c .before .before .before .byte-at2 .ensures,
+      c .before .before .byte-at3 .ensures,
+      c .before .byte-at4 .ensures,
+    )
+
+pub header-spec : {M : Type 1} → statement M
+header-spec =
+    tie.close
+    (tie.spec
+    byte-at-requires
+    byte-at-requires-2
+    byte-at-requires-3
+    byte-at-requires-4
+    returns
+    returns-2)

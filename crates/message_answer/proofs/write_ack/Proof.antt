@@ -1,0 +1,106 @@
+-- `message_answer::write_ack` meets its contract: nothing where none is asked for, the 29 bytes of get status, or the header. Assumes nothing.
+use mathlib.Core.Path.{sym, _∙_}
+use mathlib.Core.List.{[], _∷_}
+use borrow.Author.Tests.{not-true, not-false}
+use types.Run.{miss}
+use denote.Ref.{now}
+use Rattle.rules.specs.Message.{subjectOf}
+use Rattle.message_operation.proofs.Rows.{told-kind}
+use Rattle.message_answer.proofs.Answers.{puts-none, puts-given, bytes-unasked, bytes-status, bytes-ack, not-status}
+use borrow.Author.Needs.{needs}
+use Rattle.message_answer.proofs.write_ack.Statement.{statement}
+use Rattle.message_answer.proofs.write_ack.Tie as tie
+
+answer-asked-requires : tie.Need-answer-asked-requires
+answer-asked-requires c κs = search needs
+
+returns : tie.Need-returns
+returns c = puts-none _ _ (bytes-unasked _ _ _ (sym (c .before .answer-asked .ensures) ∙ not-true _ (c .if1 .taken)))
+
+u16-at-requires : tie.Need-u16-at-requires
+u16-at-requires c κs = search needs
+
+kind-of-requires : tie.Need-kind-of-requires
+kind-of-requires c κs = search needs
+
+enum-told : tie.Need-enum-told
+enum-told c = search needs
+
+row-in-requires : tie.Need-row-in-requires
+row-in-requires c κs = search needs
+
+load-requires : tie.Need-load-requires
+load-requires c κs = search needs
+
+status-now-requires : tie.Need-status-now-requires
+status-now-requires c κs = search needs
+
+status-answer-requires : tie.Need-status-answer-requires
+status-answer-requires c κs = search needs
+
+slice-aggregate-put : tie.Need-slice-aggregate-put
+slice-aggregate-put c = search needs
+
+put-requires : tie.Need-put-requires
+put-requires c κs = search needs
+
+same-length : tie.Need-same-length
+same-length c = search needs
+
+returns-2 : tie.Need-returns-2
+unfolding subjectOf
+returns-2 c =
+    let a = c .before .before .before .before .before .before .before .before .before .before .before .before .before .before .before .before .before .before .before .args in
+    let m = now (a .message) in
+    let asked = sym (c .before .before .before .before .before .before .before .before .before .before .before .before .before .before .answer-asked .ensures) ∙ not-false _ (c .before .before .before .before .before .before .before .before .before .before .before .before .before .if1 .left) in
+    let is = told-kind m (c .before .before .before .before .before .before .before .before .before .before .before .kind-of .ensures) (c .before .before .before .before .before .before .before .before .before .before .before .before .u16-at .ensures) (c .before .before .before .before .before .before .before .before .before .enum-told .given .1) in
+    puts-given (now (a .answer)) _ _ _ _
+    ((rw (c .before .before .before .before .before .before .status-now .ensures, c .before .before .before .before .before .before .before .load .ensures, c .before .before .before .before .before .before .before .before .row-in .ensures) at (c .before .before .before .before .before .status-answer .ensures))
+    ∙ sym (bytes-status _ _ asked is))
+    (c .before .before .put .ensures)
+
+header-requires : tie.Need-header-requires
+header-requires c κs = search needs
+
+slice-aggregate-put-2 : tie.Need-slice-aggregate-put-2
+slice-aggregate-put-2 c = search needs
+
+put-requires-2 : tie.Need-put-requires-2
+put-requires-2 c κs = search needs
+
+same-length-2 : tie.Need-same-length-2
+same-length-2 c = search needs
+
+returns-3 : tie.Need-returns-3
+returns-3 c =
+    let a = c .before .before .before .before .before .before .before .before .before .before .before .before .before .before .before .args in
+    let asked = sym (c .before .before .before .before .before .before .before .before .before .before .answer-asked .ensures) ∙ not-false _ (c .before .before .before .before .before .before .before .before .before .if1 .left) in
+    let kind = c .before .before .before .before .before .before .before .kind-of .ensures in
+    let read = c .before .before .before .before .before .before .before .before .u16-at .ensures in
+    let other = not-status (c .before .before .before .before .before .before .before .kind-of .result) (λ is. miss (0 ∷ 1 ∷ 2 ∷ 3 ∷ 4 ∷ 5 ∷ 7 ∷ 8 ∷ []) 6 tt (rw is at (c .before .before .before .before .before .before .match .keys2))) in
+    puts-given (now (a .answer)) _ _ _ _
+    (c .before .before .before .before .before .header .ensures ∙ sym (bytes-ack _ _ asked (rw (kind, read) at other)))
+    (c .before .before .put2 .ensures)
+
+pub write-ack-spec : {M : Type 1} → statement M
+write-ack-spec =
+    tie.close
+    (tie.spec
+    answer-asked-requires
+    returns
+    u16-at-requires
+    kind-of-requires
+    enum-told
+    row-in-requires
+    load-requires
+    status-now-requires
+    status-answer-requires
+    slice-aggregate-put
+    put-requires
+    same-length
+    returns-2
+    header-requires
+    slice-aggregate-put-2
+    put-requires-2
+    same-length-2
+    returns-3)

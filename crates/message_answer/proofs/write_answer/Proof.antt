@@ -1,0 +1,56 @@
+-- `message_answer::write_answer` meets its contract: an ACK, nothing or a NAK, by the outcome's number. Assumes nothing.
+use mathlib.Core.Path.{sym, _∙_}
+use borrow.Author.Tests.{eq-eqb, ne-eqb, le-ltb}
+use Rattle.rules.specs.Outcome.{carriedOut, silent}
+use Rattle.message_answer.proofs.Answers.{puts-none, puts-same, bytes-ok, bytes-silent, bytes-nak}
+use borrow.Author.Needs.{needs}
+use Rattle.message_answer.proofs.write_answer.Statement.{statement}
+use Rattle.message_answer.proofs.write_answer.Tie as tie
+
+outcome-number-requires : tie.Need-outcome-number-requires
+outcome-number-requires c κs = search needs
+
+write-ack-requires : tie.Need-write-ack-requires
+write-ack-requires c κs = search needs
+
+same-length : tie.Need-same-length
+same-length c = search needs
+
+returns : tie.Need-returns
+unfolding carriedOut
+returns c =
+    let a = c .before .before .before .before .before .before .before .before .before .before .args in
+    let ok = eq-eqb _ 0 (sym (c .before .before .before .before .before .outcome-number .ensures) ∙ c .before .before .before .before .if1 .taken) in
+    puts-same (bytes-ok (a .outcome) _ _ ok) (c .before .before .write-ack .ensures)
+
+returns-2 : tie.Need-returns-2
+returns-2 c =
+    puts-none _ _ (bytes-silent _ _ _ (rw (c .before .before .outcome-number .ensures) at (c .if2 .taken)))
+
+write-nak-requires : tie.Need-write-nak-requires
+write-nak-requires c κs = search needs
+
+same-length-2 : tie.Need-same-length-2
+same-length-2 c = search needs
+
+returns-3 : tie.Need-returns-3
+unfolding carriedOut silent
+returns-3 c =
+    let a = c .before .before .before .before .before .before .before .before .before .before .before .args in
+    let number = c .before .before .before .before .before .before .outcome-number .ensures in
+    let refused = ne-eqb _ 0 (λ e. c .before .before .before .before .before .if1 .left (number ∙ e)) in
+    let loud = le-ltb 100 _ (rw number at (c .before .before .before .before .if2 .left)) in
+    puts-same (bytes-nak (a .outcome) _ _ refused loud) (c .before .before .write-nak .ensures)
+
+pub write-answer-spec : {M : Type 1} → statement M
+write-answer-spec =
+    tie.close
+    (tie.spec
+    outcome-number-requires
+    write-ack-requires
+    same-length
+    returns
+    returns-2
+    write-nak-requires
+    same-length-2
+    returns-3)

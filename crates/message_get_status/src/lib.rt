@@ -1,0 +1,34 @@
+// Get status. The function tests the rows of document 01's outcome table from N4 on, in its order; the
+// rows above are passed when it is called. No record changes, so it gets none.
+ghost use Rattle.board.specs.Memory.{boardIn};
+ghost use Rattle.message_operation.specs.Operation.{asked, ReadsStatus};
+use board::ROWS;
+use message_operation::row_in;
+use access_rights::is_permitted;
+use rules::Outcome;
+
+// Get status: the sender is permitted, and there is a status word. No record changes.
+pub fn get_status(
+    board: &[u8; 576],
+    access: &[u16],
+    channel: u8,
+    message: &[u8],
+    status: &[u32],
+) -> Outcome
+    ensures { λ r. ⌜ ReadsStatus (boardIn (now (board .entry))) (now (access .entry)) (asked channel (now (message .entry)) (now (status .entry))) r ⌝ }
+{
+    if message.len() < 9 {
+        return Outcome::N4;
+    }
+    let row = row_in(board, message);
+    if ROWS <= row {
+        return Outcome::N6;
+    }
+    if !is_permitted(board, access, row, channel as u16) {
+        return Outcome::N7;
+    }
+    if status.len() == 0 {
+        return Outcome::R3;
+    }
+    Outcome::Ok
+}

@@ -1,0 +1,105 @@
+-- `message_handover::handover` meets its contract: N4 to N8 by a law for each, and the new host controls, which is counted. Assumes nothing.
+use mathlib.Core.Path.{_≡_, refl, ap, _∙_}
+use mathlib.Core.List.{[]}
+use denote.Ref.{now}
+use Rattle.rules.specs.declared.Kind.the-variants.{Handover}
+use Rattle.rules.specs.Role.{permitted}
+use Rattle.rules.specs.Message.{Query, newHostOf}
+use Rattle.access.specs.Memory.{entryAt}
+use Rattle.board.specs.Memory.{boardIn}
+use Rattle.message_operation.specs.Operation.{asked}
+use Rattle.message_operation.proofs.Rows.{Loaded, loaded-at, too-short, off-board, lacks-right, wrong-operands, admitted, refuses, carries-own}
+use Rattle.record.specs.Holder.{withHolder}
+use Rattle.record.proofs.Counted.{holder-is}
+use borrow.Author.Needs.{needs}
+use Rattle.message_handover.proofs.handover.Statement.{statement}
+use Rattle.message_handover.proofs.handover.Tie as tie
+
+abbrev start : tie.After-load → tie.Start
+start c = c .before .before .before .before .before .before .before .before
+
+abbrev asks : tie.After-load → Query
+asks c = asked (start c .args .channel) (now (start c .args .message)) []
+
+at-N7 : (c : tie.After-load)
+    → Loaded (boardIn (now (start c .args .board))) Handover (asks c) (now (start c .args .records)) (c .before .before .before .before .row-in .result) (c .load .result)
+at-N7 c =
+    loaded-at (c .before .before .before .before .before .if1 .left) refl (c .before .before .before .before .row-in .ensures)
+    (c .before .before .before .if2 .left)
+    (c .load .ensures)
+
+-- the host that is asked about is the new host
+new-host : (c : tie.After-is-permitted)
+    → let l = c .before .before .before .before in
+    c .is-permitted .result
+    ≡ permitted (boardIn (now (start l .args .board))) (entryAt (now (start l .args .access)) (l .before .before .before .before .row-in .result)) (newHostOf (asks l .message))
+new-host c = c .is-permitted .ensures ∙ ap (permitted _ _) (c .before .byte-at .ensures)
+
+returns : tie.Need-returns
+returns c = refuses (too-short (c .if1 .taken))
+
+row-in-requires : tie.Need-row-in-requires
+row-in-requires c κs = search needs
+
+returns-2 : tie.Need-returns-2
+returns-2 c = refuses (off-board (c .before .before .if1 .left) refl (c .before .row-in .ensures) (c .if2 .taken))
+
+load-requires : tie.Need-load-requires
+load-requires c κs = search needs
+
+is-controller-requires : tie.Need-is-controller-requires
+is-controller-requires c κs = search needs
+
+returns-3 : tie.Need-returns-3
+returns-3 c =
+    refuses (lacks-right (at-N7 (c .before .before) .reached) (c .before .is-controller .ensures) (c .if3 .taken))
+
+byte-at-requires : tie.Need-byte-at-requires
+byte-at-requires c κs = search needs
+
+cast-is-permitted : tie.Need-cast-is-permitted
+cast-is-permitted c = search needs
+
+is-permitted-requires : tie.Need-is-permitted-requires
+is-permitted-requires c κs = search needs
+
+returns-4 : tie.Need-returns-4
+returns-4 c =
+    let r = at-N7 (c .before .before .before .before .before) .reached in
+    refuses
+    (wrong-operands r (c .before .before .before .before .is-controller .ensures) (c .before .before .before .if3 .left)
+    (new-host (c .before))
+    (c .if4 .taken))
+
+on-handover-requires : tie.Need-on-handover-requires
+on-handover-requires c κs = search needs
+
+returns-5 : tie.Need-returns-5
+returns-5 c =
+    let d = c .before .before .before in
+    let f = d .before .before .before .before in
+    let l = at-N7 f in
+    carries-own refl refl l
+    (admitted (l .reached) (d .before .before .before .is-controller .ensures) (d .before .before .if3 .left) (new-host d) (c .before .before .if4 .left))
+    refl
+    (λ r. refl)
+    (c .on-handover .ensures
+    ∙ ap (withHolder Handover _ _) (d .before .byte-at .ensures)
+    ∙ holder-is _ Handover _ _ _ _ (f .load .ensures) (f .before .before .before .if2 .left))
+
+pub handover-spec : {M : Type 1} → statement M
+handover-spec =
+    tie.close
+    (tie.spec
+    returns
+    row-in-requires
+    returns-2
+    load-requires
+    is-controller-requires
+    returns-3
+    byte-at-requires
+    cast-is-permitted
+    is-permitted-requires
+    returns-4
+    on-handover-requires
+    returns-5)

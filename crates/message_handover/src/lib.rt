@@ -1,0 +1,44 @@
+// Handover: the controller gives a processor to another host. The function tests the rows of document
+// 01's outcome table from N4 on, in its order; the rows above are passed when it is called. OK changes
+// the record in the lent memory, and a refusal leaves it.
+ghost use mathlib.Core.List.{[]};
+ghost use Rattle.rules.specs.declared.Kind.the-variants.{Handover};
+ghost use Rattle.board.specs.Memory.{boardIn};
+ghost use Rattle.message_operation.specs.Operation.{asked, Carries};
+use board::ROWS;
+use message_operation::row_in;
+use record::load;
+use access_rights::is_controller;
+use access_rights::is_permitted;
+use rules::Outcome;
+use record::on_handover;
+use wire::byte_at;
+
+// Handover: the sender is the controller, and the new host is permitted. The new host controls.
+pub fn handover(
+    board: &[u8; 576],
+    access: &[u16],
+    records: &mut [u32; 288],
+    channel: u8,
+    message: &[u8],
+) -> Outcome
+    ensures { λ r. ⌜ Carries (boardIn (now (board .entry))) Handover (now (access .entry)) (now (records .entry)) (asked channel (now (message .entry)) []) (now (records .exit)) r ⌝ }
+{
+    if message.len() < 10 {
+        return Outcome::N4;
+    }
+    let row = row_in(board, message);
+    if ROWS <= row {
+        return Outcome::N6;
+    }
+    let state = load(board, &records[..], row);
+    if !is_controller(state, channel) {
+        return Outcome::N7;
+    }
+    let host = byte_at(message, 9);
+    if !is_permitted(board, access, row, host as u16) {
+        return Outcome::N8;
+    }
+    on_handover(records, row, host);
+    Outcome::Ok
+}

@@ -1,0 +1,72 @@
+-- `message_release::release` meets its contract: N4, N6 and N7 by a law for each, and nobody controls, which is counted. Assumes nothing.
+use mathlib.Core.Path.{refl, _∙_}
+use mathlib.Core.List.{[]}
+use denote.Ref.{now}
+use Rattle.rules.specs.declared.Kind.the-variants.{Release}
+use Rattle.rules.specs.Message.{Query}
+use Rattle.board.specs.Memory.{boardIn}
+use Rattle.message_operation.specs.Operation.{asked}
+use Rattle.message_operation.proofs.Rows.{Loaded, loaded-at, too-short, off-board, lacks-right, admitted, refuses, carries-own}
+use Rattle.record.proofs.Counted.{holder-is}
+use borrow.Author.Needs.{needs}
+use Rattle.message_release.proofs.release.Statement.{statement}
+use Rattle.message_release.proofs.release.Tie as tie
+
+abbrev start : tie.After-load → tie.Start
+start c = c .before .before .before .before .before .before .before
+
+abbrev asks : tie.After-load → Query
+asks c = asked (start c .args .channel) (now (start c .args .message)) []
+
+at-N7 : (c : tie.After-load)
+    → Loaded (boardIn (now (start c .args .board))) Release (asks c) (now (start c .args .records)) (c .before .before .before .before .row-in .result) (c .load .result)
+at-N7 c =
+    loaded-at (c .before .before .before .before .before .if1 .left) refl (c .before .before .before .before .row-in .ensures)
+    (c .before .before .before .if2 .left)
+    (c .load .ensures)
+
+returns : tie.Need-returns
+returns c access = refuses (too-short (c .if1 .taken))
+
+row-in-requires : tie.Need-row-in-requires
+row-in-requires c κs = search needs
+
+returns-2 : tie.Need-returns-2
+returns-2 c access = refuses (off-board (c .before .before .if1 .left) refl (c .before .row-in .ensures) (c .if2 .taken))
+
+load-requires : tie.Need-load-requires
+load-requires c κs = search needs
+
+is-controller-requires : tie.Need-is-controller-requires
+is-controller-requires c κs = search needs
+
+returns-3 : tie.Need-returns-3
+returns-3 c access =
+    refuses (lacks-right (at-N7 (c .before .before) .reached) (c .before .is-controller .ensures) (c .if3 .taken))
+
+on-release-requires : tie.Need-on-release-requires
+on-release-requires c κs = search needs
+
+returns-4 : tie.Need-returns-4
+returns-4 c access =
+    let d = c .before .before in
+    let f = d .before .before in
+    let l = at-N7 f in
+    carries-own refl refl l
+    (admitted (l .reached) (d .before .is-controller .ensures) (d .if3 .left) refl refl)
+    refl
+    (λ r. refl)
+    (c .on-release .ensures ∙ holder-is _ Release _ _ _ _ (f .load .ensures) (f .before .before .before .if2 .left))
+
+pub release-spec : {M : Type 1} → statement M
+release-spec =
+    tie.close
+    (tie.spec
+    returns
+    row-in-requires
+    returns-2
+    load-requires
+    is-controller-requires
+    returns-3
+    on-release-requires
+    returns-4)

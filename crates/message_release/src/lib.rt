@@ -1,0 +1,32 @@
+// Release: the controller gives a processor back. The function tests the rows of document 01's
+// outcome table from N4 on, in its order; the rows above are passed when it is called. OK changes
+// the record in the lent memory, and a refusal leaves it.
+ghost use mathlib.Core.List.{[]};
+ghost use Rattle.rules.specs.declared.Kind.the-variants.{Release};
+ghost use Rattle.board.specs.Memory.{boardIn};
+ghost use Rattle.message_operation.specs.Operation.{asked, CarriesByController};
+use board::ROWS;
+use message_operation::row_in;
+use record::load;
+use access_rights::is_controller;
+use rules::Outcome;
+use record::on_release;
+
+// Release: the sender is the controller. The processor is free, and the other fields are kept.
+pub fn release(board: &[u8; 576], records: &mut [u32; 288], channel: u8, message: &[u8]) -> Outcome
+    ensures { λ r. ⌜ CarriesByController (boardIn (now (board .entry))) Release (now (records .entry)) (asked channel (now (message .entry)) []) (now (records .exit)) r ⌝ }
+{
+    if message.len() < 9 {
+        return Outcome::N4;
+    }
+    let row = row_in(board, message);
+    if ROWS <= row {
+        return Outcome::N6;
+    }
+    let state = load(board, &records[..], row);
+    if !is_controller(state, channel) {
+        return Outcome::N7;
+    }
+    on_release(records, row);
+    Outcome::Ok
+}

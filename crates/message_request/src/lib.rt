@@ -1,0 +1,43 @@
+// Request: a host takes a processor. The function tests the rows of document 01's outcome table
+// from N4 on, in its order; the rows above are passed when it is called. OK changes the record in
+// the lent memory, and a refusal leaves it.
+ghost use mathlib.Core.List.{[]};
+ghost use Rattle.board.specs.Memory.{boardIn};
+ghost use Rattle.message_operation.specs.Operation.{asked, CarriesRequest};
+use access::role_of;
+use board::ROWS;
+use message_operation::Decision;
+use message_operation::row_in;
+use message_operation::with_role;
+use record::load;
+use access_rights::may_request;
+use rules::Outcome;
+use rules::Role;
+use record::on_request;
+
+// Request: the processor is free and the sender permitted, or the sender is its recovery master. The
+// sender controls. From N7 on its role is told.
+pub fn request(
+    board: &[u8; 576],
+    access: &[u16],
+    records: &mut [u32; 288],
+    channel: u8,
+    message: &[u8],
+) -> Decision
+    ensures { λ r. ⌜ CarriesRequest (boardIn (now (board .entry))) (now (access .entry)) (now (records .entry)) (asked channel (now (message .entry)) []) (now (records .exit)) r ⌝ }
+{
+    if message.len() < 9 {
+        return with_role(Outcome::N4, Role::None);
+    }
+    let row = row_in(board, message);
+    if ROWS <= row {
+        return with_role(Outcome::N6, Role::None);
+    }
+    let state = load(board, &records[..], row);
+    let role = role_of(board, access, row, channel as u16);
+    if !may_request(role, state) {
+        return with_role(Outcome::N7, role);
+    }
+    on_request(records, row, channel);
+    with_role(Outcome::Ok, role)
+}

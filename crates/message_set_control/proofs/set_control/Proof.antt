@@ -1,0 +1,94 @@
+-- `message_set_control::set_control` meets its contract: N4 to N8 by a law for each, and the control word changes. Assumes nothing.
+use mathlib.Core.Path.{refl}
+use mathlib.Core.List.{[]}
+use denote.Ref.{now}
+use Rattle.rules.specs.declared.Kind.the-variants.{SetControl}
+use Rattle.rules.specs.Message.{Query}
+use Rattle.rules.specs.Outcome.{controlGood}
+use Rattle.board.specs.Memory.{boardIn}
+use Rattle.message_operation.specs.Operation.{asked}
+use Rattle.message_operation.proofs.Rows.{Loaded, loaded-at, too-short, off-board, lacks-right, by-class, wrong-operands, admitted, refuses, carries-control}
+use borrow.Author.Needs.{needs}
+use Rattle.message_set_control.proofs.set_control.Statement.{statement}
+use Rattle.message_set_control.proofs.set_control.Tie as tie
+
+abbrev start : tie.After-load → tie.Start
+start c = c .before .before .before .before .before .before .before
+
+abbrev asks : tie.After-load → Query
+asks c = asked (start c .args .channel) (now (start c .args .message)) []
+
+at-N7 : (c : tie.After-load)
+    → Loaded (boardIn (now (start c .args .board))) SetControl (asks c) (now (start c .args .records)) (c .before .before .before .before .row-in .result) (c .load .result)
+at-N7 c =
+    loaded-at (c .before .before .before .before .before .if1 .left) refl (c .before .before .before .before .row-in .ensures)
+    (c .before .before .before .if2 .left)
+    (c .load .ensures)
+
+returns : tie.Need-returns
+returns c access = refuses (too-short (c .if1 .taken))
+
+row-in-requires : tie.Need-row-in-requires
+row-in-requires c κs = search needs
+
+returns-2 : tie.Need-returns-2
+returns-2 c access = refuses (off-board (c .before .before .if1 .left) refl (c .before .row-in .ensures) (c .if2 .taken))
+
+load-requires : tie.Need-load-requires
+load-requires c κs = search needs
+
+is-controller-requires : tie.Need-is-controller-requires
+is-controller-requires c κs = search needs
+
+returns-3 : tie.Need-returns-3
+returns-3 c access =
+    refuses (lacks-right (at-N7 (c .before .before) .reached) (c .before .is-controller .ensures) (c .if3 .taken))
+
+class-at-requires : tie.Need-class-at-requires
+class-at-requires c κs = search needs
+
+control-good-requires : tie.Need-control-good-requires
+control-good-requires c κs = search needs
+
+returns-4 : tie.Need-returns-4
+returns-4 c access =
+    let r = at-N7 (c .before .before .before .before .before) .reached in
+    refuses
+    (wrong-operands r (c .before .before .before .before .is-controller .ensures) (c .before .before .before .if3 .left)
+    (by-class r controlGood (c .before .before .class-at .ensures) (c .before .control-good .ensures))
+    (c .if4 .taken))
+
+with-control-requires : tie.Need-with-control-requires
+with-control-requires c κs = search needs
+
+store-control-requires : tie.Need-store-control-requires
+store-control-requires c κs = search needs
+
+returns-5 : tie.Need-returns-5
+returns-5 c access =
+    let d = c .before .before .before in
+    let l = at-N7 (d .before .before .before .before .before) in
+    carries-control refl refl l
+    (admitted (l .reached) (d .before .before .before .before .is-controller .ensures) (d .before .before .before .if3 .left)
+    (by-class (l .reached) controlGood (d .before .before .class-at .ensures) (d .before .control-good .ensures))
+    (d .if4 .left))
+    (c .before .before .with-control .ensures)
+    (λ r. refl)
+    (c .store-control .ensures)
+
+pub set-control-spec : {M : Type 1} → statement M
+set-control-spec =
+    tie.close
+    (tie.spec
+    returns
+    row-in-requires
+    returns-2
+    load-requires
+    is-controller-requires
+    returns-3
+    class-at-requires
+    control-good-requires
+    returns-4
+    with-control-requires
+    store-control-requires
+    returns-5)

@@ -1,0 +1,119 @@
+-- `message_wait_status::wait_status` meets its contract: a law for each row, and what the wait reports. Assumes nothing.
+use mathlib.Core.Path.{refl}
+use denote.Ref.{now}
+use Rattle.rules.specs.declared.Kind.the-variants.{WaitStatus}
+use Rattle.rules.specs.declared.Record.{Record}
+use Rattle.rules.specs.Message.{Query}
+use Rattle.board.specs.Memory.{boardIn}
+use Rattle.message_operation.specs.Operation.{asked}
+use Rattle.message_operation.proofs.Rows.{Reached, reached, Admitted, too-short, off-board, lacks-right, wrong-operands, admitted}
+use Rattle.message_operation.proofs.StatusWords.{few-words, enough-words, unwaits, waits}
+use borrow.Author.Needs.{needs}
+use Rattle.message_wait_status.proofs.wait_status.Statement.{statement}
+use Rattle.message_wait_status.proofs.wait_status.Tie as tie
+
+abbrev start : tie.Else2 → tie.Start
+start c = c .before .before .before .before .before .before
+
+abbrev asks : tie.Else2 → Query
+asks c = asked (start c .args .channel) (now (start c .args .message)) (now (start c .args .status))
+
+at-N7 : (c : tie.Else2) (state : Record) → Reached (boardIn (now (start c .args .board))) WaitStatus (asks c) (c .before .row-in .result) state state
+at-N7 c state = reached (c .before .before .if1 .left) refl (c .before .row-in .ensures) (c .if2 .left) refl
+
+at-R3 : (c : tie.Else4) (state : Record)
+    → Admitted (boardIn (now (start (c .before .before .before .before .before) .args .board))) WaitStatus (asks (c .before .before .before .before .before))
+    (now (start (c .before .before .before .before .before) .args .access)) state
+at-R3 c state =
+    admitted (at-N7 (c .before .before .before .before .before) state) (c .before .before .before .before .is-permitted .ensures)
+    (c .before .before .before .if3 .left)
+    (rw (c .before .before .wait-in .ensures) at (c .before .wait-good .ensures))
+    (c .if4 .left)
+
+outcome-alone-requires : tie.Need-outcome-alone-requires
+outcome-alone-requires c κs = search needs
+
+returns : tie.Need-returns
+returns c state = unwaits (too-short (c .before .if1 .taken)) (c .outcome-alone .ensures)
+
+row-in-requires : tie.Need-row-in-requires
+row-in-requires c κs = search needs
+
+outcome-alone-requires-2 : tie.Need-outcome-alone-requires-2
+outcome-alone-requires-2 c κs = search needs
+
+returns-2 : tie.Need-returns-2
+returns-2 c state =
+    unwaits (off-board (c .before .before .before .if1 .left) refl (c .before .before .row-in .ensures) (c .before .if2 .taken))
+    (c .outcome-alone2 .ensures)
+
+is-permitted-requires : tie.Need-is-permitted-requires
+is-permitted-requires c κs = search needs
+
+outcome-alone-requires-3 : tie.Need-outcome-alone-requires-3
+outcome-alone-requires-3 c κs = search needs
+
+returns-3 : tie.Need-returns-3
+returns-3 c state =
+    unwaits (lacks-right (at-N7 (c .before .before .before) state) (c .before .before .is-permitted .ensures) (c .before .if3 .taken))
+    (c .outcome-alone3 .ensures)
+
+wait-in-requires : tie.Need-wait-in-requires
+wait-in-requires c κs = search needs
+
+wait-good-requires : tie.Need-wait-good-requires
+wait-good-requires c κs = search needs
+
+outcome-alone-requires-4 : tie.Need-outcome-alone-requires-4
+outcome-alone-requires-4 c κs = search needs
+
+returns-4 : tie.Need-returns-4
+returns-4 c state =
+    let d = c .before in
+    unwaits
+    (wrong-operands (at-N7 (d .before .before .before .before .before) state) (d .before .before .before .before .is-permitted .ensures)
+    (d .before .before .before .if3 .left)
+    (rw (d .before .before .wait-in .ensures) at (d .before .wait-good .ensures))
+    (d .if4 .taken))
+    (c .outcome-alone4 .ensures)
+
+cast-if5 : tie.Need-cast-if5
+cast-if5 c = search needs
+
+outcome-alone-requires-5 : tie.Need-outcome-alone-requires-5
+outcome-alone-requires-5 c κs = search needs
+
+returns-5 : tie.Need-returns-5
+returns-5 c state =
+    let w = c .before .before .before .before .before .wait-in .ensures in
+    unwaits (few-words (at-R3 (c .before .before .before) state) w (c .before .if5 .taken)) (c .outcome-alone5 .ensures)
+
+waited-requires : tie.Need-waited-requires
+waited-requires c κs = search needs
+
+returns-6 : tie.Need-returns-6
+returns-6 c state =
+    let w = c .before .before .before .before .before .wait-in .ensures in
+    waits w (enough-words (at-R3 (c .before .before .before) state) w (c .before .if5 .left)) (c .waited .ensures)
+
+pub wait-status-spec : {M : Type 1} → statement M
+wait-status-spec =
+    tie.close
+    (tie.spec
+    outcome-alone-requires
+    returns
+    row-in-requires
+    outcome-alone-requires-2
+    returns-2
+    is-permitted-requires
+    outcome-alone-requires-3
+    returns-3
+    wait-in-requires
+    wait-good-requires
+    outcome-alone-requires-4
+    returns-4
+    cast-if5
+    outcome-alone-requires-5
+    returns-5
+    waited-requires
+    returns-6)

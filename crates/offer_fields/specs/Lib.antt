@@ -1,2 +1,0 @@
--- An offer by its tag.
-pub mod Offers

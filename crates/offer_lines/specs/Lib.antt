@@ -1,2 +1,0 @@
--- An offer carried out.
-pub mod Offers

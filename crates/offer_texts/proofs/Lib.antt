@@ -1,2 +1,0 @@
--- What the proof of this crate needs.
-pub mod Offers

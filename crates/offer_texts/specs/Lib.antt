@@ -1,2 +1,0 @@
--- The texts of offers.
-pub mod Offers

@@ -1,2 +1,0 @@
--- What the offers promise.
-pub mod Calls

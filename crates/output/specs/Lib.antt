@@ -1,2 +1,0 @@
--- Room for a line.
-pub mod Room

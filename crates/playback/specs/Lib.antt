@@ -1,2 +1,0 @@
--- A session between two reads.
-pub mod Session

@@ -1,2 +1,0 @@
--- A field by its tag.
-pub mod ByTag

@@ -1,0 +1,82 @@
+// The processors' records: one record by value, out of the lent record memory. Its layout is
+// specs/Memory.antt; any content of it is a state. What puts a record back is in crate record_stores.
+mod store;
+mod tally;
+
+pub use store::store_control;
+pub use store::store_own;
+pub use tally::on_handover;
+pub use tally::on_release;
+pub use tally::on_request;
+
+ghost use Prim.Native.Nat.{_<_};
+ghost use mathlib.Core.Path.{_≡_};
+ghost use lib.ListN.{getD};
+ghost use Rattle.rules.specs.Board.{homeAt};
+ghost use Rattle.board.specs.Memory.{boardIn};
+ghost use Rattle.record.specs.Memory.{ownAt, controlPlace, recordAt};
+use board::ROWS;
+use board::home_at;
+use rules::Record;
+use rules::Tallies;
+
+// The place of the control word of the processor at `row`: at its home, which its cluster shares.
+pub fn control_place(board: &[u8; 576], row: u8) -> usize
+    ensures { λ r. ⌜ (r ≡ controlPlace (homeAt (boardIn (now (board .entry))) row)) × (r < 288) ⌝ }
+{
+    256 + home_at(board, row) as usize
+}
+
+// The word at place `i`; past the end there are zeros.
+fn word_at(records: &[u32], i: usize) -> u32
+    ensures { λ r. ⌜ r ≡ getD (now (records .entry)) i 0 ⌝ }
+{
+    if i < records.len() {
+        return records[i];
+    }
+    0
+}
+
+// The tallies at `row`.
+fn load_tallies(records: &[u32], row: u8) -> Tallies
+    ensures { λ r. ⌜ r ≡ ownAt (now (records .entry)) row .tallies ⌝ }
+{
+    let at = 8 * (row as usize);
+    Tallies {
+        grants: word_at(records, at + 4),
+        overrides: word_at(records, at + 5),
+        handovers: word_at(records, at + 6),
+        releases: word_at(records, at + 7),
+    }
+}
+
+// The record at `row`. At a row that is not there all is 0 but the control word.
+pub fn load(board: &[u8; 576], records: &[u32], row: u8) -> Record
+    ensures { λ r. ⌜ r ≡ recordAt (boardIn (now (board .entry))) (now (records .entry)) row ⌝ }
+{
+    let control = word_at(records, control_place(board, row));
+    if row < ROWS {
+        let at = 8 * (row as usize);
+        return Record {
+            controller: word_at(records, at),
+            low: word_at(records, at + 1),
+            high: word_at(records, at + 2),
+            config: word_at(records, at + 3),
+            control,
+            tallies: load_tallies(records, row),
+        };
+    }
+    Record {
+        controller: 0,
+        low: 0,
+        high: 0,
+        config: 0,
+        control,
+        tallies: Tallies {
+            grants: 0,
+            overrides: 0,
+            handovers: 0,
+            releases: 0,
+        },
+    }
+}

@@ -1,2 +1,0 @@
--- A message carried out.
-pub mod Played

@@ -1,0 +1,124 @@
+-- `recording_fields::take_words` meets its contract. The loop's invariant: the first i words are laid. Assumes nothing.
+use Prim.Native.Nat.{ℕ, _-_, _/_, _≤_}
+use mathlib.Core.Path.{_≡_, refl, sym, ap, _∙_}
+use mathlib.Core.List.{List, _++_}
+use native.Mathlib.Numerals.{add-one}
+use native.Mathlib.Omega.{arith}
+use borrow.Author.Needs.{needs}
+use lib.ListN.{length, getD, set, take, drop, length-set}
+use denote.Ref.{now}
+use Rattle.recording_fields.proofs.Taken.{taken, taken-length, taken-at, next-word, all-words}
+use Rattle.recording_fields.proofs.words.take_words.Statement.{statement}
+use Rattle.recording_fields.proofs.words.take_words.Tie as tie
+
+abbrev Inv-loop : tie.InvT-loop
+Inv-loop body memory₀ whole i₀ memory i =
+    (i ≤ length body / 4) × (i ≤ 255) × (memory ≡ take i (taken body) ++ drop i memory₀) × (length memory ≡ 255) × (length memory₀ ≡ 255)
+
+abbrev μ-loop : tie.MeasureT-loop
+μ-loop body memory₀ whole i₀ memory i = length body / 4 - i
+
+loop-holds : tie.Need-loop-holds Inv-loop μ-loop
+loop-holds c = (omega arith, omega arith, refl, search needs, search needs)
+
+returns : tie.Need-returns Inv-loop μ-loop
+returns c =
+    let a = c .before .before .before .before .before .args in
+    let l = c .before .before .loop in
+    let body = now (a .body) in
+    let size : l .i ≡ length (taken body) = omega (arith, taken-length body) in (
+      size,
+      (omega arith, l .inv .2 ∙ all-words (now (a .words)) (taken body) (l .i) size),
+    )
+
+mul-at : tie.Need-mul-at Inv-loop μ-loop
+mul-at c = omega arith
+
+shared-slice-read-joined : tie.Need-shared-slice-read-joined Inv-loop μ-loop
+shared-slice-read-joined c = omega arith
+
+add-joined : tie.Need-add-joined Inv-loop μ-loop
+add-joined c = omega arith
+
+shared-slice-read-joined-2 : tie.Need-shared-slice-read-joined-2 Inv-loop μ-loop
+shared-slice-read-joined-2 c = omega arith
+
+add-joined-2 : tie.Need-add-joined-2 Inv-loop μ-loop
+add-joined-2 c = omega arith
+
+shared-slice-read-joined-3 : tie.Need-shared-slice-read-joined-3 Inv-loop μ-loop
+shared-slice-read-joined-3 c = omega arith
+
+add-joined-3 : tie.Need-add-joined-3 Inv-loop μ-loop
+add-joined-3 c = omega arith
+
+shared-slice-read-joined-4 : tie.Need-shared-slice-read-joined-4 Inv-loop μ-loop
+shared-slice-read-joined-4 c = omega arith
+
+joined-requires : tie.Need-joined-requires Inv-loop μ-loop
+joined-requires c κs = search needs
+
+mul-memory : tie.Need-mul-memory Inv-loop μ-loop
+mul-memory c = omega arith
+
+slice-write-memory : tie.Need-slice-write-memory Inv-loop μ-loop
+slice-write-memory c = omega arith
+
+add-i : tie.Need-add-i Inv-loop μ-loop
+add-i c = omega arith
+
+loop-less : tie.Need-loop-less Inv-loop μ-loop
+loop-less c = omega arith
+
+loop-again : tie.Need-loop-again Inv-loop μ-loop
+loop-again c =
+    let a = c .before .before .before .before .before .before .before .before .before .before .args in
+    let l = c .before .before .before .before .before .before .before .loop in
+    let body = now (a .body) in
+    let held = now (a .words) in
+    let word : c .joined .result ≡ getD (taken body) (l .i) 0 =
+    c .joined .ensures ∙ sym (taken-at body (l .i) (omega arith) (omega arith))
+    in (
+      omega arith,
+      omega arith,
+      ap (λ (x : ℕ). set (l .memory) (l .i) x) word
+          ∙ ap (λ (m : List ℕ). set m (l .i) (getD (taken body) (l .i) 0)) (l .inv .2)
+          ∙ next-word held (taken body) (l .i) (omega arith) (omega (arith, taken-length body))
+          ∙ ap (λ (n : ℕ). take n (taken body) ++ drop n held) (sym (add-one (l .i))),
+      length-set (l .memory) (l .i) (c .joined .result) ∙ l .inv .3,
+      l .inv .4,
+    )
+
+returns-2 : tie.Need-returns-2 Inv-loop μ-loop
+returns-2 c =
+    let a = c .before .before .before .before .args in
+    let l = c .before .loop in
+    let body = now (a .body) in
+    let size : l .i ≡ length (taken body) = omega (arith, taken-length body) in (
+      size,
+      (omega arith, l .inv .2 ∙ all-words (now (a .words)) (taken body) (l .i) size),
+    )
+
+pub take-words-spec : {M : Type 1} → statement M
+take-words-spec =
+    tie.close
+    (tie.spec
+    Inv-loop
+    μ-loop
+    loop-holds
+    returns
+    mul-at
+    shared-slice-read-joined
+    add-joined
+    shared-slice-read-joined-2
+    add-joined-2
+    shared-slice-read-joined-3
+    add-joined-3
+    shared-slice-read-joined-4
+    joined-requires
+    mul-memory
+    slice-write-memory
+    add-i
+    loop-less
+    loop-again
+    returns-2)

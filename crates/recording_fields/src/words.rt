@@ -1,0 +1,28 @@
+// The status words that a field of a recording holds. The rule is specs/Words.antt.
+ghost use mathlib.Core.Path.{_≡_};
+ghost use Prim.Native.Nat.{_≤_};
+ghost use lib.ListN.{length, take};
+ghost use Rattle.rules.specs.Answer.{bufferAfter};
+ghost use Rattle.recording_fields.specs.Words.{wordsOf};
+use wire::joined;
+
+// Takes the status words of a field's body to the start of `words`, as many as there is room for, and
+// gives their number. A body of 1,020 bytes fills it.
+pub fn take_words(body: &[u8], words: &mut [u32; 255]) -> usize
+    ensures { λ r. ⌜ r ≡ length (take 255 (wordsOf (now (body .entry)))) ⌝ }
+    ensures { λ r. ⌜ r ≤ 255 ⌝ }
+    ensures { λ _. ⌜ now (words .exit) ≡ bufferAfter (take 255 (wordsOf (now (body .entry)))) (now (words .entry)) ⌝ }
+{
+    let memory = &mut words[..];
+    let whole = body.len() / 4;
+    let mut i = 0;
+    while i < whole {
+        if i == 255 {
+            return i;
+        }
+        let at = 4 * i;
+        memory[i] = joined(body[at], body[at + 1], body[at + 2], body[at + 3]);
+        i += 1;
+    }
+    i
+}

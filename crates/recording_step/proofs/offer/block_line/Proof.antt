@@ -1,0 +1,30 @@
+-- `recording_step::block_line` meets its contract: the block call, and its line. Assumes nothing.
+use denote.Ref.{now}
+use Rattle.recording_lines.specs.Offers.{blockWord}
+use Rattle.recording_step.proofs.Offers.{offer-refused, offer-played}
+use borrow.Author.Needs.{needs}
+use Rattle.recording_step.proofs.offer.block_line.Statement.{statement}
+use Rattle.recording_step.proofs.offer.block_line.Tie as tie
+
+returns : tie.Need-returns
+returns c = offer-refused _ _ _ _ _ _ (c .if1 .taken)
+
+offer-block-requires : tie.Need-offer-block-requires
+offer-block-requires c κs = search needs
+
+print-block-requires : tie.Need-print-block-requires
+print-block-requires c κs = search needs
+
+same-length : tie.Need-same-length
+same-length c = search needs
+
+returns-2 : tie.Need-returns-2
+returns-2 c =
+    let line = now (c .before .before .before .before .before .before .before .before .before .args .line) in
+    let call = c .before .before .before .before .offer-block in
+    offer-played blockWord _ _ _ _ line _ _ (call .result .verdict) (call .result .host) _ (c .before .before .before .before .before .before .if1 .left)
+    (call .ensures .verdict) (call .ensures .host) (call .ensures .memory) (c .before .before .print-block .ensures)
+
+pub block-line-spec : {M : Type 1} → statement M
+block-line-spec =
+    tie.close (tie.spec returns offer-block-requires print-block-requires same-length returns-2)

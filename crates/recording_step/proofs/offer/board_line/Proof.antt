@@ -1,0 +1,31 @@
+-- `recording_step::board_line` meets its contract: the board call, and its line. Assumes nothing.
+use mathlib.Core.Path.{refl}
+use denote.Ref.{now}
+use Rattle.recording_lines.specs.Offers.{boardWord}
+use Rattle.recording_step.proofs.Offers.{offer-refused, offer-played}
+use borrow.Author.Needs.{needs}
+use Rattle.recording_step.proofs.offer.board_line.Statement.{statement}
+use Rattle.recording_step.proofs.offer.board_line.Tie as tie
+
+returns : tie.Need-returns
+returns c = offer-refused _ _ _ _ _ _ (c .if1 .taken)
+
+offer-board-requires : tie.Need-offer-board-requires
+offer-board-requires c κs = search needs
+
+print-board-requires : tie.Need-print-board-requires
+print-board-requires c κs = search needs
+
+same-length : tie.Need-same-length
+same-length c = search needs
+
+returns-2 : tie.Need-returns-2
+returns-2 c =
+    let line = now (c .before .before .before .before .before .before .before .before .before .args .line) in
+    let call = c .before .before .before .offer-board in
+    offer-played boardWord _ 0 _ _ line _ _ (call .result) 0 _ (c .before .before .before .before .before .before .if1 .left) (call .ensures .verdict) refl (call .ensures .memory-after)
+    (c .before .before .print-board .ensures)
+
+pub board-line-spec : {M : Type 1} → statement M
+board-line-spec =
+    tie.close (tie.spec returns offer-board-requires print-board-requires same-length returns-2)

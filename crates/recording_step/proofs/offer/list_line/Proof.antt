@@ -1,0 +1,31 @@
+-- `recording_step::list_line` meets its contract: the list call, and its line. Assumes nothing.
+use mathlib.Core.Path.{refl}
+use denote.Ref.{now}
+use Rattle.recording_lines.specs.Offers.{listWord}
+use Rattle.recording_step.proofs.Offers.{offer-refused, offer-played}
+use borrow.Author.Needs.{needs}
+use Rattle.recording_step.proofs.offer.list_line.Statement.{statement}
+use Rattle.recording_step.proofs.offer.list_line.Tie as tie
+
+returns : tie.Need-returns
+returns c = offer-refused _ _ _ _ _ _ (c .if1 .taken)
+
+offer-list-requires : tie.Need-offer-list-requires
+offer-list-requires c κs = search needs
+
+print-list-requires : tie.Need-print-list-requires
+print-list-requires c κs = search needs
+
+same-length : tie.Need-same-length
+same-length c = search needs
+
+returns-2 : tie.Need-returns-2
+returns-2 c =
+    let line = now (c .before .before .before .before .before .before .before .before .before .args .line) in
+    let call = c .before .before .before .offer-list in
+    offer-played listWord _ 0 _ _ line _ _ (call .result) 0 _ (c .before .before .before .before .before .before .if1 .left) (call .ensures .verdict) refl (call .ensures .memory)
+    (c .before .before .print-list .ensures)
+
+pub list-line-spec : {M : Type 1} → statement M
+list-line-spec =
+    tie.close (tie.spec returns offer-list-requires print-list-requires same-length returns-2)

@@ -1,0 +1,50 @@
+// Session recordings: carries a message out, and writes the line that it prints. The rules are
+// specs/Played.antt, over the lines of the crate below.
+ghost use mathlib.Core.Path.{_≡_};
+ghost use lib.ListN.{drop};
+ghost use Rattle.board.specs.Memory.{boardIn};
+ghost use Rattle.recording_step.specs.Played.{PlayedMessage};
+use recording_lines::print_message;
+use call_message::message;
+use recording_texts::ROOM;
+use wire::byte_at;
+
+// All of a field's body but its first byte.
+fn after_first(body: &[u8]) -> &[u8]
+    ensures { λ r. ⌜ now r ≡ drop 1 (now (body .entry)) ⌝ }
+{
+    if body.len() == 0 {
+        return &body[..0];
+    }
+    &body[1..]
+}
+
+// Carries out a message field with these status words, and writes its line over the start of `line`. Gives
+// the line's length. Where there is no room for a line, nothing is carried out.
+pub fn message_line(
+    board: &[u8; 576],
+    access: &[u16; 129],
+    records: &mut [u32; 288],
+    body: &[u8],
+    status: &[u32],
+    line: &mut [u8],
+) -> usize
+    ensures { λ r. ⌜ PlayedMessage (boardIn (now (board .entry))) (now (access .entry)) (now (records .entry)) (now (body .entry)) (now (status .entry)) (now (line .entry)) (now (records .exit)) (now (line .exit)) r ⌝ }
+{
+    if line.len() < ROOM {
+        return 0;
+    }
+    let mut answer = [0u8; 29];
+    let channel = byte_at(body, 0);
+    let told = message(
+        board,
+        access,
+        records,
+        channel,
+        after_first(body),
+        status,
+        &mut answer,
+    );
+    let written = told.written;
+    print_message(line, told, &answer[..written])
+}

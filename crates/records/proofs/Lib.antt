@@ -1,2 +1,0 @@
--- What the proofs of this crate and of those above it share.
-pub mod LentMemory

@@ -1,2 +1,0 @@
--- What the lent record memory holds.
-pub mod Memory

@@ -1,2 +1,0 @@
--- The rows that come before the type.
-pub mod Screened

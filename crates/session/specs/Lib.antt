@@ -1,2 +1,0 @@
--- How a session ends.
-pub mod Ends

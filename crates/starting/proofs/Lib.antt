@@ -1,2 +1,0 @@
--- What the crates above this one cite.
-pub mod Started

@@ -1,2 +1,0 @@
--- What comes next in a buffer.
-pub mod Next

@@ -1,2 +1,0 @@
--- The tags of a recording.
-pub mod Tags

@@ -1,2 +1,0 @@
--- What a change of the controller leaves in the record memory.
-pub mod Holder

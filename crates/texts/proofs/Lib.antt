@@ -1,2 +1,0 @@
--- What the proofs of the crates above this one share.
-pub mod Printing

@@ -1,2 +1,0 @@
--- The texts that a session prints.
-pub mod Texts

@@ -1,2 +1,0 @@
--- What is printed of a verdict.
-pub mod Names

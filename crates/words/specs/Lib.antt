@@ -1,2 +1,0 @@
--- The status words of a field.
-pub mod Words
