@@ -1,4 +1,4 @@
--- That a list was accepted is kept in the memory. Assumes nothing.
+-- That a list was accepted is kept in the memory.
 use mathlib.Core.Path.{_≡_, refl}
 use mathlib.Core.Bool.{Bool, true, false}
 use Rattle.rules.specs.State.{listed, Setup}

@@ -1,4 +1,4 @@
--- Laws of the access memory: stored entry by entry and read again it gives the entries of the rules. Assumes nothing.
+-- Laws of the access memory: stored entry by entry and read again it gives the entries of the rules.
 use Prim.Native.Nat.{ℕ, zero, suc, _+_, _*_, _<_, _≤_}
 use native.Mathlib.Nat.{add-zero}
 use native.Mathlib.Numerals.{add-one, one-add, towards-suc}

@@ -1,4 +1,4 @@
--- The access memory of crate access with a list in force, and the steps by which it is stored. Assumes nothing.
+-- The access memory of crate access with a list in force, and the steps by which it is stored.
 use Prim.Native.Nat.{ℕ, zero, suc}
 use mathlib.Core.Bool.{cond, _&&_}
 use mathlib.Core.List.{List, [], _∷_}

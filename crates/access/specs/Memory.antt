@@ -1,5 +1,5 @@
 -- The access memory, 129 words of 16 bits, read as the rules have it. Word 0 is not 0 once a list was accepted, alone or in a block. Then each of 32
--- rows has four words: the recovery master and the three secondaries; zeros are no entry. Any content is a state. Assumes nothing.
+-- rows has four words: the recovery master and the three secondaries; zeros are no entry. Any content is a state.
 use Prim.Native.Nat.{ℕ, _+_, _*_}
 use mathlib.Core.Bool.{Bool, not, cond}
 use mathlib.Core.List.{List, []}

@@ -3,7 +3,6 @@
 mod store;
 
 pub use store::load;
-
 ghost use mathlib.Core.Path.{_≡_};
 ghost use mathlib.Core.Bool.{cond};
 ghost use lib.ListN.{getD};
@@ -12,8 +11,19 @@ ghost use Rattle.rules.specs.Board.{activeHost};
 ghost use Rattle.rules.specs.Role.{roleOf};
 ghost use Rattle.board.specs.Memory.{boardIn};
 ghost use Rattle.access.specs.Memory.{listedIn, entryAt};
+use board::BoardMemory;
 use board::is_active;
 use rules::Role;
+
+// The access memory: a mark, and four words for each row.
+pub const ACCESS_WORDS: usize = 129;
+
+pub type AccessMemory = [u16; ACCESS_WORDS];
+
+// The first entry's place, and how many words an entry has: the master and three secondaries.
+const ENTRIES: usize = 1;
+
+const ENTRY_WORDS: usize = 4;
 
 // The word at place `i` of the access memory; past its end there are zeros.
 fn word_at(access: &[u16], i: usize) -> u16
@@ -33,7 +43,7 @@ pub fn is_listed(access: &[u16]) -> bool
 }
 
 // The role of `host` on a processor without an entry, which is open to every board host but 0.
-fn open_role(board: &[u8; 576], host: u16) -> Role
+fn open_role(board: &BoardMemory, host: u16) -> Role
     ensures { λ r. ⌜ r ≡ cond (activeHost (boardIn (now (board .entry))) host) Open None ⌝ }
 {
     if is_active(board, host) {
@@ -44,13 +54,13 @@ fn open_role(board: &[u8; 576], host: u16) -> Role
 
 // The role of `host` for the processor at `row`. Host 0 has none: it is never permitted, and a secondary of
 // 0 is unused. By an entry the master comes first, then the lowest place.
-pub fn role_of(board: &[u8; 576], access: &[u16], row: u8, host: u16) -> Role
+pub fn role_of(board: &BoardMemory, access: &[u16], row: u8, host: u16) -> Role
     ensures { λ r. ⌜ r ≡ roleOf (boardIn (now (board .entry))) (entryAt (now (access .entry)) row) host ⌝ }
 {
     if host == 0 {
         return Role::None;
     }
-    let at = 1 + 4 * (row as usize);
+    let at = ENTRIES + ENTRY_WORDS * (row as usize);
     let master = word_at(access, at);
     if master == host {
         return Role::Master;

@@ -4,6 +4,10 @@ ghost use mathlib.Core.Path.{_≡_};
 ghost use lib.ListN.{length, replicate};
 ghost use Rattle.board.specs.Memory.{boardIn};
 ghost use Rattle.access.specs.InForce.{putEntry, loadedFrom};
+use crate::AccessMemory;
+use crate::ENTRIES;
+use crate::ENTRY_WORDS;
+use board::BoardMemory;
 use board::ROWS;
 use board::row_of;
 use wire::byte_at;
@@ -21,7 +25,7 @@ fn clear(memory: &mut [u16])
 }
 
 // Puts a used entry's four words at its processor's row. An unused one is stored nowhere.
-fn store_entry(board: &[u8; 576], memory: &mut [u16], part: &[u8])
+fn store_entry(board: &BoardMemory, memory: &mut [u16], part: &[u8])
     requires { ⌜ length (now memory) ≡ 129 ⌝ }
     ensures { λ _. ⌜ now (memory .exit) ≡ putEntry (boardIn (now (board .entry))) (now (part .entry)) (now (memory .entry)) ⌝ }
 {
@@ -33,7 +37,7 @@ fn store_entry(board: &[u8; 576], memory: &mut [u16], part: &[u8])
     if row >= ROWS {
         return;
     }
-    let at = 1 + 4 * (row as usize);
+    let at = ENTRIES + ENTRY_WORDS * (row as usize);
     memory[at] = u16_at(part, 1);
     memory[at + 1] = u16_at(part, 3);
     memory[at + 2] = u16_at(part, 5);
@@ -42,7 +46,7 @@ fn store_entry(board: &[u8; 576], memory: &mut [u16], part: &[u8])
 
 // Puts 1 and the entries of a list into the memory, whatever it held. One of another length is no list, and
 // changes nothing.
-pub fn load(board: &[u8; 576], access: &mut [u16; 129], list: &[u8])
+pub fn load(board: &BoardMemory, access: &mut AccessMemory, list: &[u8])
     ensures { λ _. ⌜ now (access .exit) ≡ loadedFrom (boardIn (now (board .entry))) (now (access .entry)) (now (list .entry)) ⌝ }
 {
     if list.len() != 292 {

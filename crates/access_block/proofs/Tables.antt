@@ -1,4 +1,4 @@
--- Laws of the judge of a block: what is left of the table behind each of its parts. Assumes nothing.
+-- Laws of the judge of a block: what is left of the table behind each of its parts.
 use Prim.Native.Nat.{ℕ}
 use mathlib.Core.Path.{_≡_, refl, sym, ap, ap₂, _∙_}
 use mathlib.Core.Bool.{Bool, true, false, not, _&&_, _||_}

@@ -6,6 +6,7 @@ ghost use Rattle.rules.specs.Table.{firstOf};
 ghost use Rattle.rules.specs.Block.{otpTable, blockVerdict, reportedHost};
 ghost use Rattle.board.specs.Memory.{boardIn};
 use access_hierarchy::verdict_alone;
+use board::BoardMemory;
 use rules::BlockReport;
 use rules::Verdict;
 use wire::byte_at;
@@ -26,7 +27,7 @@ fn check_otp(bytes: &[u8]) -> Verdict
 
 // What a block comes to, where `listed` says whether a list or a block was accepted before, and `major` and
 // `minor` are the ABI bytes that it must have. The first fault is reported, and with B8 the loop's host.
-pub fn judge(board: &[u8; 576], listed: bool, major: u8, minor: u8, block: &[u8]) -> BlockReport
+pub fn judge(board: &BoardMemory, listed: bool, major: u8, minor: u8, block: &[u8]) -> BlockReport
     ensures { λ r. ⌜ r .verdict ≡ blockVerdict (boardIn (now (board .entry))) listed major minor (now (block .entry)) ⌝ }
     ensures { λ r. ⌜ r .host ≡ reportedHost (r .verdict) (now (block .entry)) ⌝ }
 {

@@ -1,4 +1,4 @@
--- Laws of a hierarchy: what one pair comes to, what is left after it, and what the lines behind the pairs come to. Assumes nothing.
+-- Laws of a hierarchy: what one pair comes to, what is left after it, and what the lines behind the pairs come to.
 use Prim.Native.Nat.{ℕ, _+_, _*_, _<_}
 use mathlib.Core.Path.{_≡_, refl, sym, ap, _∙_}
 use mathlib.Core.Bool.{Bool, true, false, cond, not}

@@ -1,4 +1,4 @@
--- Laws of the table of supervisors: what one entry more leaves in it, and that following it is following the entries. Assumes nothing.
+-- Laws of the table of supervisors: what one entry more leaves in it, and that following it is following the entries.
 use Prim.Native.Nat.{ℕ, zero, suc, _+_, _*_, _-_, _<_}
 use mathlib.Core.Path.{_≡_, refl, sym, _∙_, ap, subst}
 use mathlib.Core.Bool.{Bool, true, false, not, _&&_, _||_}

@@ -1,4 +1,4 @@
--- The supervisors of a hierarchy as a table by host. Assumes nothing.
+-- The supervisors of a hierarchy as a table by host.
 use Prim.Native.Nat.{ℕ}
 use mathlib.Core.List.{List}
 use lib.ListN.{getD}

@@ -4,7 +4,6 @@ mod loops;
 mod report;
 
 pub use report::verdict_alone;
-
 ghost use mathlib.Core.Path.{_≡_};
 ghost use mathlib.Core.List.{[]};
 ghost use Rattle.rules.specs.declared.Verdict.the-variants.{Accepted};
@@ -13,9 +12,10 @@ ghost use Rattle.rules.specs.Substructure.{partAt, inTurn};
 ghost use Rattle.rules.specs.Hierarchy.{pairs, pairTable, hierarchyTable, loopReported};
 ghost use Rattle.board.specs.Memory.{boardIn};
 ghost use Rattle.access_list.specs.Entries.{partsBefore};
-use board::is_host;
-use access_list::named_before;
 use crate::loops::loop_host;
+use access_list::named_before;
+use board::BoardMemory;
+use board::is_host;
 use rules::BlockReport;
 use rules::Verdict;
 use wire::byte_at;
@@ -23,7 +23,7 @@ use wire::u16_at;
 
 // B5 to B7 of entry `e`, after the entries before it. Supervisor 0 is a board host. Of an unused entry the
 // supervisor is not looked at.
-fn check_pair(board: &[u8; 576], bytes: &[u8], e: u8) -> Verdict
+fn check_pair(board: &BoardMemory, bytes: &[u8], e: u8) -> Verdict
     ensures { λ r. ⌜ r ≡ firstOf Accepted (pairTable (boardIn (now (board .entry))) (partsBefore 2 (now (bytes .entry)) e) (partAt 2 (now (bytes .entry)) e)) ⌝ }
 {
     let at = 4 + 2 * (e as usize);
@@ -44,7 +44,7 @@ fn check_pair(board: &[u8; 576], bytes: &[u8], e: u8) -> Verdict
 }
 
 // B5 to B7 of each entry in turn.
-fn check_pairs(board: &[u8; 576], bytes: &[u8]) -> Verdict
+fn check_pairs(board: &BoardMemory, bytes: &[u8]) -> Verdict
     ensures { λ r. ⌜ r ≡ firstOf Accepted (inTurn (pairTable (boardIn (now (board .entry)))) [] (pairs (now (bytes .entry)))) ⌝ }
 {
     let mut e: u8 = 0;
@@ -59,7 +59,7 @@ fn check_pairs(board: &[u8; 576], bytes: &[u8]) -> Verdict
 }
 
 // What a hierarchy comes to: the first fault, with B8 the first host in entry order that lies on a loop.
-pub fn judge(board: &[u8; 576], bytes: &[u8]) -> BlockReport
+pub fn judge(board: &BoardMemory, bytes: &[u8]) -> BlockReport
     ensures { λ r. ⌜ r .verdict ≡ firstOf Accepted (hierarchyTable (boardIn (now (board .entry))) (now (bytes .entry))) ⌝ }
     ensures { λ r. ⌜ r .host ≡ loopReported (r .verdict) (now (bytes .entry)) ⌝ }
 {

@@ -1,5 +1,4 @@
 -- Laws of one entry: the numbers that the entries before it name, what is left to decide after it, and what the code's tests say of A5 and A7.
--- Assumes nothing.
 use Prim.Native.Nat.{ℕ, zero, suc, _+_, _*_, _-_, _<_, _≤_}
 use native.Mathlib.Nat.{mul-le-mul}
 use native.Mathlib.Numerals.{add-one}

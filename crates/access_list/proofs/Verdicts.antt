@@ -1,4 +1,4 @@
--- Laws of the judge: what one entry comes to, what is left after it, and what an accepted list is. Assumes nothing.
+-- Laws of the judge: what one entry comes to, what is left after it, and what an accepted list is.
 use Prim.Native.Nat.{ℕ, zero, suc, _+_, _*_, _<_}
 use native.Mathlib.Omega.{arith}
 use mathlib.Core.Path.{_≡_, refl, sym, ap, _∙_}

@@ -1,5 +1,5 @@
 -- One entry of a substructure, after those before it: the numbers that the entries before have, and what is left to decide when a loop comes to it.
--- Of an access list document 01's A5 to A7. An entry is a part of the bytes, as rules/specs/Substructure.antt cuts it. Assumes nothing.
+-- Of an access list document 01's A5 to A7. An entry is a part of the bytes, as rules/specs/Substructure.antt cuts it.
 use Prim.Native.Nat.{ℕ, zero, suc, _+_, _*_, _-_}
 use mathlib.Core.Bool.{Bool, false, not, _||_}
 use mathlib.Core.List.{List, [], _∷_}

@@ -1,5 +1,5 @@
 -- The judge's steps over A8: what is left to decide when the loop comes to secondary k. What is left at entry e, and what one entry comes to
--- before its secondaries, is in crate entries. Assumes nothing.
+-- before its secondaries, is in crate entries.
 use Prim.Native.Nat.{ℕ}
 use mathlib.Core.Bool.{Bool}
 use mathlib.Core.List.{List}

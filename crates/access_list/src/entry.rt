@@ -3,6 +3,7 @@
 ghost use mathlib.Core.Path.{_≡_};
 ghost use Rattle.board.specs.Memory.{boardIn};
 ghost use Rattle.access_list.specs.Entries.{writtenBefore, faultOf};
+use board::BoardMemory;
 use board::ROWS;
 use board::is_active;
 use board::row_of;
@@ -26,7 +27,7 @@ pub fn named_before(bytes: &[u8], width: u8, e: u8, number: u8) -> bool
 }
 
 // A5 to A7 of a used entry; `named` says whether an earlier one names its processor.
-pub fn check_entry(board: &[u8; 576], part: &[u8], named: bool) -> Verdict
+pub fn check_entry(board: &BoardMemory, part: &[u8], named: bool) -> Verdict
     ensures { λ r. ⌜ r ≡ faultOf (boardIn (now (board .entry))) named (now (part .entry)) ⌝ }
 {
     if row_of(board, byte_at(part, 0)) >= ROWS {

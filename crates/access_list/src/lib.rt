@@ -3,19 +3,19 @@
 mod entry;
 
 pub use entry::named_before;
-
 ghost use mathlib.Core.Path.{_≡_};
 ghost use Rattle.board.specs.Memory.{boardIn};
 ghost use Rattle.rules.specs.AccessList.{verdictOf};
-use board::is_host;
 use crate::entry::check_entry;
+use board::BoardMemory;
+use board::is_host;
 use rules::Verdict;
 use wire::byte_at;
 use wire::u16_at;
 
 // What a list comes to, where `listed` says whether a list or a block was accepted before. The first
 // fault is reported: the search stops at the first bad secondary of the first bad entry.
-pub fn judge(board: &[u8; 576], listed: bool, list: &[u8]) -> Verdict
+pub fn judge(board: &BoardMemory, listed: bool, list: &[u8]) -> Verdict
     ensures { λ r. ⌜ r ≡ verdictOf (boardIn (now (board .entry))) listed (now (list .entry)) ⌝ }
 {
     if listed {
@@ -45,7 +45,7 @@ pub fn judge(board: &[u8; 576], listed: bool, list: &[u8]) -> Verdict
             Verdict::Accepted => {}
             fault => break 'entries fault,
         }
-        let mut k: u8 = 0;
+        let mut k: usize = 0;
         while k < 3 {
             if !is_host(board, u16_at(part, 3 + 2 * k)) {
                 break 'entries Verdict::A8;

@@ -7,6 +7,7 @@ ghost use Rattle.rules.specs.Outcome.{mayRequest, isController};
 ghost use Rattle.board.specs.Memory.{boardIn};
 ghost use Rattle.access.specs.Memory.{entryAt};
 use access::role_of;
+use board::BoardMemory;
 use rules::Record;
 use rules::Role;
 
@@ -46,7 +47,7 @@ fn is_master(role: Role) -> bool
 }
 
 // Whether `host` is permitted for the processor at `row`.
-pub fn is_permitted(board: &[u8; 576], access: &[u16], row: u8, host: u16) -> bool
+pub fn is_permitted(board: &BoardMemory, access: &[u16], row: u8, host: u16) -> bool
     ensures { λ r. ⌜ r ≡ permitted (boardIn (now (board .entry))) (entryAt (now (access .entry)) row) host ⌝ }
 {
     permits(role_of(board, access, row, host))

@@ -1,4 +1,4 @@
--- Laws of the cleared memory: a byte at a time it becomes that of a board with nothing listed. Assumes nothing.
+-- Laws of the cleared memory: a byte at a time it becomes that of a board with nothing listed.
 use Prim.Native.Nat.{ℕ, _+_, _≤_, _<_}
 use native.Mathlib.Nat.{zero-add}
 use native.Mathlib.Numerals.{add-one}

@@ -1,5 +1,5 @@
 -- The board memory as it is read: each look-up of the rules is one byte of it, for any content; and the bytes of a board whose tables have their
--- lengths read as that board. Assumes nothing.
+-- lengths read as that board.
 use Prim.Native.Nat.{ℕ, _+_, _%_, _≤_, _<_}
 use mathlib.Core.Path.{_≡_, sym, ap, _∙_}
 use mathlib.Core.Bool.{Bool, false, not, _||_}

@@ -1,5 +1,4 @@
 -- The board memory, 576 bytes: the tables of rules/specs/Board.antt one behind the other, read as they stand there. Any content is a board.
--- Assumes nothing.
 use Prim.Native.Nat.{ℕ, _+_}
 use mathlib.Core.List.{List, _++_}
 use lib.ListN.{getD}

@@ -1,17 +1,15 @@
-// The board memory with nothing listed, which a board is put on; and where its tables begin.
+// The board memory with nothing listed, which a board is put on.
 ghost use mathlib.Core.Path.{_≡_};
 ghost use Prim.Native.Nat.{_<_};
 ghost use Rattle.rules.specs.Description.{nothingListed, boardOf};
 ghost use Rattle.board.specs.Memory.{boardBytes};
 ghost use Rattle.board.specs.Cleared.{clearByte};
+use crate::BOARD_BYTES;
+use crate::BoardMemory;
+use crate::CLASSES;
+use crate::HOMES;
+use crate::PLACES;
 use crate::ROWS;
-
-// Where the tables of the memory begin; that of the hosts is the first.
-pub const PLACES: usize = 256;
-
-pub const CLASSES: usize = 512;
-
-pub const HOMES: usize = 544;
 
 // The byte at place `i` of the memory of a board with nothing listed: no host, no processor, and
 // each row its own home.
@@ -32,12 +30,12 @@ fn clear_byte(i: usize) -> u8
 }
 
 // Takes everything off the board, whatever the memory held.
-pub fn clear(board: &mut [u8; 576])
+pub fn clear(board: &mut BoardMemory)
     ensures { λ _. ⌜ now (board .exit) ≡ boardBytes (boardOf nothingListed) ⌝ }
 {
     let memory = &mut board[..];
     let mut i = 0;
-    while i < 576 {
+    while i < BOARD_BYTES {
         memory[i] = clear_byte(i);
         i += 1;
     }

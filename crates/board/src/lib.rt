@@ -3,15 +3,23 @@
 // same name in rules/specs/Board.antt gives, for any content of the memory and any number.
 mod clearing;
 
-pub use clearing::CLASSES;
-pub use clearing::HOMES;
-pub use clearing::PLACES;
 pub use clearing::clear;
-
 ghost use Prim.Native.Nat.{_<_};
 ghost use mathlib.Core.Path.{_≡_};
 ghost use Rattle.rules.specs.Board.{boardHost, activeHost, rowOf, classAt, homeAt, maskOf};
 ghost use Rattle.board.specs.Memory.{boardIn};
+
+// The board memory: tables of the hosts, of the processors' rows, and by row of classes and homes.
+pub const BOARD_BYTES: usize = 576;
+
+pub type BoardMemory = [u8; BOARD_BYTES];
+
+// Where the tables begin; that of the hosts is the first.
+pub const PLACES: usize = 256;
+
+pub const CLASSES: usize = 512;
+
+pub const HOMES: usize = 544;
 
 // How many rows a board has: one for each of at most 32 processors.
 pub const ROWS: u8 = 32;
@@ -21,7 +29,7 @@ const MASKS: [[u32; 2]; 2] = [[0xFF03, 0x3], [0x10F, 0x103]];
 
 // Whether `host` is on the board. Hosts of an access list have 16 bits and are compared as such: one
 // above 255 is on no board. Host 0 is on every board.
-pub fn is_host(board: &[u8; 576], host: u16) -> bool
+pub fn is_host(board: &BoardMemory, host: u16) -> bool
     ensures { λ r. ⌜ r ≡ boardHost (boardIn (now (board .entry))) host ⌝ }
 {
     if host == 0 {
@@ -34,36 +42,36 @@ pub fn is_host(board: &[u8; 576], host: u16) -> bool
 }
 
 // Whether `host` is on the board and not 0, the management firmware, which never sends or controls.
-pub fn is_active(board: &[u8; 576], host: u16) -> bool
+pub fn is_active(board: &BoardMemory, host: u16) -> bool
     ensures { λ r. ⌜ r ≡ activeHost (boardIn (now (board .entry))) host ⌝ }
 {
     (host != 0) & is_host(board, host)
 }
 
 // The row of `processor`, or a number from `ROWS` on where it is not on the board. The only way to a row.
-pub fn row_of(board: &[u8; 576], processor: u8) -> u8
+pub fn row_of(board: &BoardMemory, processor: u8) -> u8
     ensures { λ r. ⌜ r ≡ rowOf (boardIn (now (board .entry))) processor ⌝ }
 {
-    board[256 + processor as usize]
+    board[PLACES + processor as usize]
 }
 
 // The class of the processor at `row`: 0 for R5, 1 for ARMv8.
-pub fn class_at(board: &[u8; 576], row: u8) -> usize
+pub fn class_at(board: &BoardMemory, row: u8) -> usize
     ensures { λ r. ⌜ r ≡ classAt (boardIn (now (board .entry))) row ⌝ }
 {
     if row < ROWS {
-        return (board[512 + row as usize] % 2) as usize;
+        return (board[CLASSES + row as usize] % 2) as usize;
     }
     0
 }
 
 // The row where the control word of the processor at `row` is kept. The processors of an ARMv8 cluster
 // have one home.
-pub fn home_at(board: &[u8; 576], row: u8) -> u8
+pub fn home_at(board: &BoardMemory, row: u8) -> u8
     ensures { λ r. ⌜ (r ≡ homeAt (boardIn (now (board .entry))) row) × (r < 32) ⌝ }
 {
     if row < ROWS {
-        return board[544 + row as usize] % 32;
+        return board[HOMES + row as usize] % ROWS;
     }
     0
 }

@@ -1,4 +1,4 @@
--- Laws of the items in turn: the first of them and those behind it, and where each begins. Assumes nothing.
+-- Laws of the items in turn: the first of them and those behind it, and where each begins.
 use Prim.Native.Nat.{ℕ, zero, suc, _+_, _-_, _≤_, _<_}
 use native.Mathlib.Nat.{add-zero}
 use native.Mathlib.Numerals.{add-one}

@@ -1,4 +1,4 @@
--- Laws of the faults of an item: found by what the items before it say, they are those of the rules. Assumes nothing.
+-- Laws of the faults of an item: found by what the items before it say, they are those of the rules.
 use Prim.Native.Nat.{ℕ, _≤_}
 use mathlib.Core.Path.{_≡_, ap, subst, _∙_}
 use mathlib.Core.Bool.{true, false, cond}

@@ -1,4 +1,4 @@
--- Laws of one field: what the code's tests say of it, and the item that it holds. Assumes nothing.
+-- Laws of one field: what the code's tests say of it, and the item that it holds.
 use Prim.Native.Nat.{ℕ, _+_, _-_, _≤_, _<_}
 use native.Mathlib.Omega.{arith}
 use mathlib.Core.Path.{_≡_, refl, sym, ap, _∙_}

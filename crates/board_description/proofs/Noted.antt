@@ -1,4 +1,4 @@
--- Laws of what the items before an item say of it: a turn of the walk back, and where it ends. Assumes nothing.
+-- Laws of what the items before an item say of it: a turn of the walk back, and where it ends.
 use Prim.Native.Nat.{ℕ, zero, suc, _+_, _-_, _≤_, _<_}
 use native.Mathlib.Nat.{add-zero}
 use native.Mathlib.Numerals.{add-one}

@@ -1,4 +1,4 @@
--- Laws of the judge: what one item comes to, what is left after it, and how far a cursor has come. Assumes nothing.
+-- Laws of the judge: what one item comes to, what is left after it, and how far a cursor has come.
 use Prim.Native.Nat.{ℕ, _+_, _≤_, _<_}
 use native.Mathlib.Omega.{arith}
 use mathlib.Core.Path.{_≡_, refl, sym, ap, subst, subst⁻¹, _∙_}

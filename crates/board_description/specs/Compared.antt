@@ -1,5 +1,5 @@
 -- What the items before an item of a board description say of it, noted one at a time: the answers that document 02's D3, D5 and D6 ask
--- for. Assumes nothing.
+-- for.
 use Prim.Native.Nat.{ℕ, zero, suc, _+_}
 use mathlib.Core.Bool.{Bool, cond, not, _&&_, _||_}
 use mathlib.Core.List.{List}

@@ -1,5 +1,5 @@
 -- The items of a description by their number: where each begins, and what those before it list, as a cursor that walks the bytes
--- finds them. Of document 02, L8. Assumes nothing.
+-- finds them. Of document 02, L8.
 use Prim.Native.Nat.{ℕ, zero, suc, _+_}
 use mathlib.Core.List.{List}
 use lib.ListN.{drop}

@@ -1,4 +1,4 @@
--- Document 02's D1 to D6 of an item, by what the items before it say. Assumes nothing.
+-- Document 02's D1 to D6 of an item, by what the items before it say.
 use mathlib.Core.Bool.{cond}
 use mathlib.Core.List.{[], _∷_}
 use lib.Dec.{eqb, ltb, leb}

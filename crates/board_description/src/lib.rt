@@ -7,7 +7,6 @@ mod item;
 pub use item::HOST;
 pub use item::field_size;
 pub use item::item_at;
-
 ghost use mathlib.Core.Path.{_≡_};
 ghost use Rattle.rules.specs.Description.{boardVerdict};
 use crate::earlier::look_back;

@@ -1,4 +1,4 @@
--- Laws of the filled memory: how far the walk has come, a turn of it, and its end; and what an offer leaves. Assumes nothing.
+-- Laws of the filled memory: how far the walk has come, a turn of it, and its end; and what an offer leaves.
 use Prim.Native.Nat.{ℕ, _+_, _≤_, _<_}
 use native.Mathlib.Omega.{arith}
 use mathlib.Core.Path.{_≡_, sym, ap, subst, subst⁻¹, _∙_}

@@ -1,5 +1,5 @@
 -- Laws of lists that get one element more: a search in them, and a look-up; and a store in two lists one behind the other. For any
--- type. Assumes nothing.
+-- type.
 use Prim.Native.Nat.{ℕ, zero, suc, _+_}
 use native.Mathlib.Nat.{zero-add, suc-add}
 use mathlib.Core.Path.{_≡_, refl, sym, ap, _∙_}

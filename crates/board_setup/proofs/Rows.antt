@@ -1,5 +1,5 @@
 -- Laws of the rows that the items of a description get, and of the walk that finds the home of a processor's control word: the first
--- processor that has the same word. Assumes nothing.
+-- processor that has the same word.
 use Prim.Native.Nat.{ℕ, zero, suc, _+_, _-_, _≤_, _<_}
 use native.Mathlib.Nat.{add-zero}
 use native.Mathlib.Omega.{arith}

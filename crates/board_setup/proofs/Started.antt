@@ -1,4 +1,4 @@
--- The board memory of the start: what the offer of document 01's board leaves, and that it reads as that board. Assumes nothing.
+-- The board memory of the start: what the offer of document 01's board leaves, and that it reads as that board.
 use Prim.Native.Nat.{ℕ}
 use mathlib.Core.Path.{_≡_, ap, _∙_}
 use mathlib.Core.Bool.{false}

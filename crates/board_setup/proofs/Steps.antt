@@ -1,4 +1,4 @@
--- Laws of a board that gets one item more: each table changes at one place, and so does the memory. The item has no fault. Assumes nothing.
+-- Laws of a board that gets one item more: each table changes at one place, and so does the memory. The item has no fault.
 use Prim.Native.Nat.{ℕ, zero, suc, _+_, _≤_, _<_}
 use native.Mathlib.Omega.{arith}
 use mathlib.Core.Path.{_≡_, refl, sym, ap, _∙_}

@@ -1,4 +1,4 @@
--- Laws of a store in the board memory: it changes one of the four tables that lie there one behind the other. Assumes nothing.
+-- Laws of a store in the board memory: it changes one of the four tables that lie there one behind the other.
 use Prim.Native.Nat.{ℕ, _+_, _<_}
 use native.Mathlib.Omega.{arith}
 use mathlib.Core.Path.{_≡_, ap, _∙_}

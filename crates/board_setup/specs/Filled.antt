@@ -1,5 +1,5 @@
 -- The board memory after a description is offered (document 02, L8: "taken whole, replacing the board before it"), and the steps by
--- which it is filled item by item. Assumes nothing.
+-- which it is filled item by item.
 use Prim.Native.Nat.{ℕ, _+_, _≤_}
 use mathlib.Core.Path.{_≡_}
 use mathlib.Core.Bool.{Bool, cond, not, _&&_}

@@ -3,7 +3,6 @@
 mod starting;
 
 pub use starting::start;
-
 ghost use mathlib.Core.Path.{_≡_};
 ghost use mathlib.Core.Bool.{false};
 ghost use Prim.Native.Nat.{_≤_, _<_};
@@ -12,14 +11,15 @@ ghost use Rattle.rules.specs.Description.{isHost, withItem, sharedCluster, home
 ghost use Rattle.board.specs.Memory.{boardBytes};
 ghost use Rattle.board_description.specs.Cursor.{listedBefore};
 ghost use Rattle.board_setup.specs.Filled.{Behind, boardAfter, sharesWord, rowAfter, putItem};
+use board::BoardMemory;
 use board::CLASSES;
 use board::HOMES;
 use board::PLACES;
 use board::clear;
-use board_description::judge;
 use board_description::HOST;
 use board_description::field_size;
 use board_description::item_at;
+use board_description::judge;
 use rules::Item;
 use rules::Verdict;
 
@@ -82,7 +82,7 @@ fn home_of(description: &[u8], count: usize, item: Item, row: u8) -> u8
 
 // Puts an item on the board that has the first `count` items, where `row` is the first free one.
 // The item has no fault, so its mark is 0 or 1, and a processor finds a row.
-fn put(board: &mut [u8; 576], description: &[u8], count: usize, item: Item, row: u8)
+fn put(board: &mut BoardMemory, description: &[u8], count: usize, item: Item, row: u8)
     requires { ⌜ Behind (now description) count row ⌝ }
     requires { ⌜ (item .mark ≤ 1) × (isHost item ≡ false → row < 32) ⌝ }
     ensures { λ _. ⌜ now (board .exit) ≡ putItem (now (board .entry)) (listedBefore (now (description .entry)) count) item row ⌝ }
@@ -100,7 +100,7 @@ fn put(board: &mut [u8; 576], description: &[u8], count: usize, item: Item, row:
 }
 
 // Puts the board that an accepted description describes into the memory, whatever that held.
-fn fill(board: &mut [u8; 576], description: &[u8])
+fn fill(board: &mut BoardMemory, description: &[u8])
     requires { ⌜ boardVerdict false (now description) ≡ Accepted ⌝ }
     ensures { λ _. ⌜ now (board .exit) ≡ boardBytes (described (now (description .entry))) ⌝ }
 {
@@ -119,7 +119,7 @@ fn fill(board: &mut [u8; 576], description: &[u8])
 
 // The board call: judges first, and on a refusal writes nothing. `listed` says whether a list or a
 // block was accepted before.
-pub fn offer_board(board: &mut [u8; 576], listed: bool, description: &[u8]) -> Verdict
+pub fn offer_board(board: &mut BoardMemory, listed: bool, description: &[u8]) -> Verdict
     ensures verdict { λ r. ⌜ r ≡ boardVerdict listed (now (description .entry)) ⌝ }
     ensures memory { λ _. ⌜ now (board .exit) ≡ boardAfter (now (board .entry)) listed (now (description .entry)) ⌝ }
 {

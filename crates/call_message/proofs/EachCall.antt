@@ -1,4 +1,4 @@
--- The message call over plain lists: what its steps leave is what the rules give. Assumes nothing.
+-- The message call over plain lists: what its steps leave is what the rules give.
 use Prim.Native.Nat.{ℕ, _≤_, _<_}
 use mathlib.Core.Path.{_≡_, refl, sym, ap, _∙_}
 use mathlib.Core.Bool.{true, false}

@@ -1,5 +1,4 @@
 -- The outcome table in two parts: where the rows up to the sender are passed the rows from the type on decide, else the first of them.
--- Assumes nothing.
 use Prim.Native.Nat.{ℕ}
 use mathlib.Core.Path.{_≡_, refl, sym, ap, _∙_}
 use mathlib.Core.Bool.{Bool, true, false, _&&_, and-false}

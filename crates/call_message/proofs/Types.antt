@@ -1,4 +1,4 @@
--- What the function of a type decided and left is what the outcome table from the type on decides and leaves. Assumes nothing.
+-- What the function of a type decided and left is what the outcome table from the type on decides and leaves.
 use Prim.Native.Nat.{ℕ}
 use mathlib.Core.Path.{_≡_, refl, sym, subst⁻¹, ap, _∙_}
 use mathlib.Core.Bool.{true, false}

@@ -1,4 +1,4 @@
--- What the message call promises, over the definitions that demand 3 is about. Assumes nothing.
+-- What the message call promises, over the definitions that demand 3 is about.
 use Prim.Native.Nat.{ℕ}
 use mathlib.Core.Path.{_≡_}
 use mathlib.Core.List.{List}

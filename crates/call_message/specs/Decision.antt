@@ -1,4 +1,4 @@
--- What a message call decides before it writes an answer, and the record memory afterwards. Assumes nothing.
+-- What a message call decides before it writes an answer, and the record memory afterwards.
 use Prim.Native.Nat.{ℕ}
 use mathlib.Core.Path.{_≡_}
 use mathlib.Core.List.{List}

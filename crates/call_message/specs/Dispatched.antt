@@ -1,5 +1,4 @@
--- "Outcomes, in the order they are tested", its rows from N3 on: what they decide by the type, and the record memory afterwards. Assumes
--- nothing.
+-- "Outcomes, in the order they are tested", its rows from N3 on: what they decide by the type, and the record memory afterwards.
 use Prim.Native.Nat.{ℕ}
 use mathlib.Core.Path.{_≡_}
 use mathlib.Core.List.{List, _∷_}

@@ -1,4 +1,4 @@
--- "Outcomes, in the order they are tested", its rows R1 to N2, for a message from any channel. Assumes nothing.
+-- "Outcomes, in the order they are tested", its rows R1 to N2, for a message from any channel.
 use mathlib.Core.Bool.{Bool, not}
 use mathlib.Core.List.{List, [], _∷_}
 use Rattle.rules.specs.declared.Outcome.{Outcome}

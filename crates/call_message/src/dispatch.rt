@@ -4,26 +4,28 @@
 ghost use Rattle.board.specs.Memory.{boardIn};
 ghost use Rattle.message_operation.specs.Operation.{asked};
 ghost use Rattle.call_message.specs.Dispatched.{DecidesKind};
+use board::BoardMemory;
 use message_auth_boot::authenticated_boot;
-use message_set_config::set_config;
-use message_set_control::set_control;
-use message_handover::handover;
 use message_fields::kind_of;
+use message_get_status::get_status;
+use message_handover::handover;
 use message_operation::Decision;
 use message_operation::outcome_alone;
 use message_release::release;
 use message_request::request;
+use message_set_config::set_config;
+use message_set_control::set_control;
+use message_wait_status::wait_status;
+use record::RecordMemory;
 use rules::Kind;
 use rules::Outcome;
-use message_wait_status::wait_status;
-use message_get_status::get_status;
 use wire::u16_at;
 
 // The rows from N3 on, by the type, with the effect of OK.
 pub fn by_kind(
-    board: &[u8; 576],
+    board: &BoardMemory,
     access: &[u16],
-    records: &mut [u32; 288],
+    records: &mut RecordMemory,
     channel: u8,
     message: &[u8],
     status: &[u32],

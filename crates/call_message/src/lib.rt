@@ -10,18 +10,21 @@ ghost use Rattle.call_message.specs.Calls.{lending, MessageCall};
 ghost use Rattle.rules.specs.Message.{query};
 ghost use Rattle.call_message.specs.Decision.{Decides};
 use crate::dispatch::by_kind;
+use crate::screen::admit;
+use access::AccessMemory;
+use board::BoardMemory;
+use message_answer::write_answer;
 use message_operation::Decision;
 use message_operation::outcome_alone;
-use message_answer::write_answer;
+use record::RecordMemory;
 use rules::Outcome;
 use rules::Report;
-use crate::screen::admit;
 
 // What a message call comes to, by the whole table, with the effect of OK.
 fn decide(
-    board: &[u8; 576],
+    board: &BoardMemory,
     access: &[u16],
-    records: &mut [u32; 288],
+    records: &mut RecordMemory,
     channel: u8,
     message: &[u8],
     status: &[u32],
@@ -40,9 +43,9 @@ fn decide(
 // record of the processor that the message names is changed in the lent memory; then the answer is
 // written, if one is asked for. A refused message leaves every record as it was.
 pub fn message(
-    board: &[u8; 576],
-    access: &[u16; 129],
-    records: &mut [u32; 288],
+    board: &BoardMemory,
+    access: &AccessMemory,
+    records: &mut RecordMemory,
     channel: u8,
     message: &[u8],
     status: &[u32],

@@ -10,12 +10,13 @@ ghost use Rattle.access.specs.Memory.{listedIn};
 ghost use Rattle.rules.specs.Message.{query};
 ghost use Rattle.call_message.specs.Screened.{senderTable};
 use access::is_listed;
+use board::BoardMemory;
 use board::is_active;
 use rules::Outcome;
 use wire::byte_at;
 
 // N2: whether the channel host is unlike the header's host, or not one that sends.
-fn sender_wrong(board: &[u8; 576], channel: u8, message: &[u8]) -> bool
+fn sender_wrong(board: &BoardMemory, channel: u8, message: &[u8]) -> bool
     ensures { λ r. ⌜ r ≡ senderWrong (boardIn (now (board .entry))) (query channel (now (message .entry)) [] 0) ⌝ }
 {
     if channel != byte_at(message, 2) {
@@ -25,7 +26,13 @@ fn sender_wrong(board: &[u8; 576], channel: u8, message: &[u8]) -> bool
 }
 
 // The rows R1 to N2, which come before the type; OK where all are passed.
-pub fn admit(board: &[u8; 576], access: &[u16], channel: u8, message: &[u8], room: usize) -> Outcome
+pub fn admit(
+    board: &BoardMemory,
+    access: &[u16],
+    channel: u8,
+    message: &[u8],
+    room: usize,
+) -> Outcome
     ensures { λ r. ⌜ r ≡ firstOf Ok (senderTable (boardIn (now (board .entry))) (listedIn (now (access .entry))) (query channel (now (message .entry)) [] room)) ⌝ }
 {
     let length = message.len();

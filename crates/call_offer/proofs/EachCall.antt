@@ -1,4 +1,4 @@
--- The offers over plain lists: what their steps leave is what the rules give. Assumes nothing.
+-- The offers over plain lists: what their steps leave is what the rules give.
 use Prim.Native.Nat.{ℕ}
 use mathlib.Core.Path.{_≡_, sym, ap, _∙_, subst⁻¹}
 use mathlib.Core.Bool.{Bool}

@@ -1,5 +1,4 @@
--- The list call and the block call, read as the rules' set-up: what the memory keeps afterwards is what it keeps of the rules' next state. Assumes
--- nothing.
+-- The list call and the block call, read as the rules' set-up: what the memory keeps afterwards is what it keeps of the rules' next state.
 use Prim.Native.Nat.{ℕ}
 use mathlib.Core.Path.{_≡_, refl, sym, ap, _∙_}
 use mathlib.Core.Bool.{Bool, true}

@@ -1,4 +1,4 @@
--- Laws of an offer by its verdict: what the memory holds afterwards. Assumes nothing.
+-- Laws of an offer by its verdict: what the memory holds afterwards.
 use Prim.Native.Nat.{ℕ}
 use mathlib.Core.Path.{_≡_, sym, ap, _∙_}
 use mathlib.Core.Bool.{Bool}

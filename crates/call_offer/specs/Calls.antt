@@ -1,4 +1,4 @@
--- What the three offers promise, over the definitions that demand 3 is about. Assumes nothing.
+-- What the three offers promise, over the definitions that demand 3 is about.
 use Prim.Native.Nat.{ℕ}
 use mathlib.Core.Path.{_≡_}
 use mathlib.Core.List.{List}

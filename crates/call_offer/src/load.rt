@@ -6,15 +6,17 @@ ghost use Rattle.board.specs.Memory.{boardIn};
 ghost use Rattle.access.specs.Memory.{listedIn};
 ghost use Rattle.rules.specs.Block.{blockVerdict, reportedHost};
 ghost use Rattle.call_offer.specs.Loaded.{accessAfter, accessAfterBlock};
+use access::AccessMemory;
 use access::is_listed;
 use access::load;
 use access_list::judge;
+use board::BoardMemory;
 use rules::BlockReport;
 use rules::Verdict;
 
 // The list call: judges first, and on a refusal writes nothing. Memory of zeros is that of a manager
 // with no list.
-pub fn offer_list(board: &[u8; 576], access: &mut [u16; 129], list: &[u8]) -> Verdict
+pub fn offer_list(board: &BoardMemory, access: &mut AccessMemory, list: &[u8]) -> Verdict
     ensures verdict { λ r. ⌜ r ≡ verdictOf (boardIn (now (board .entry))) (listedIn (now (access .entry))) (now (list .entry)) ⌝ }
     ensures memory { λ _. ⌜ now (access .exit) ≡ accessAfter (boardIn (now (board .entry))) (now (access .entry)) (now (list .entry)) ⌝ }
 {
@@ -29,8 +31,8 @@ pub fn offer_list(board: &[u8; 576], access: &mut [u16; 129], list: &[u8]) -> Ve
 // The block call: in the same way, of a block with the ABI bytes `major` and `minor`. Of a good one the list
 // is loaded, as the lone list would be.
 pub fn offer_block(
-    board: &[u8; 576],
-    access: &mut [u16; 129],
+    board: &BoardMemory,
+    access: &mut AccessMemory,
     major: u8,
     minor: u8,
     block: &[u8],

@@ -1,4 +1,4 @@
-// TODO head
+// Flag words.
 mod effects;
 mod operands;
 

@@ -1,4 +1,4 @@
--- The answer's bytes by case, and what fits the room. Assumes nothing.
+-- The answer's bytes by case, and what fits the room.
 use Prim.Native.Nat.{ℕ, _<_, _≤_}
 use mathlib.Core.Path.{_≡_, refl, sym, subst, ap, _∙_}
 use mathlib.Core.Bool.{Bool, true, false, cond}

@@ -1,4 +1,4 @@
--- What is written to the answer buffer: bytes that fit it, at its start. Assumes nothing.
+-- What is written to the answer buffer: bytes that fit it, at its start.
 use Prim.Native.Nat.{ℕ}
 use mathlib.Core.Path.{_≡_}
 use mathlib.Core.Bool.{cond}

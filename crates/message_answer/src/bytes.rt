@@ -8,6 +8,9 @@ ghost use Rattle.rules.specs.Answer.{headerWith, ack, statusBytes};
 use rules::Record;
 use wire::byte_at;
 
+// The bytes of the largest answer, the ACK to get status; an answer buffer has at least as many.
+pub const ANSWER_BYTES: usize = 29;
+
 // The header of an answer to `message`: ACK or NAK.
 pub fn header(message: &[u8], acked: bool) -> [u8; 8]
     ensures { λ r. ⌜ r ≡ headerWith (cond acked 2 0) (now (message .entry)) ⌝ }
@@ -34,7 +37,7 @@ fn laid_out(
     config: u32,
     control: u32,
     status: u32,
-) -> [u8; 29]
+) -> [u8; ANSWER_BYTES]
     ensures { λ r. ⌜ r ≡ («type_low» ∷ «type_high» ∷ host ∷ sequence ∷ u32Bytes 2) ++ (processor ∷ (u32Bytes low ++ u32Bytes high ++ u32Bytes config ++ u32Bytes control ++ u32Bytes status)) ⌝ }
 {
     [
@@ -71,7 +74,7 @@ fn laid_out(
 }
 
 // The ACK to get status: header, processor, boot vector, config, control and status words.
-pub fn status_answer(message: &[u8], state: Record, status: u32) -> [u8; 29]
+pub fn status_answer(message: &[u8], state: Record, status: u32) -> [u8; ANSWER_BYTES]
     ensures { λ r. ⌜ r ≡ ack (now (message .entry)) ++ statusBytes (now (message .entry)) state status ⌝ }
 {
     let type_low = byte_at(message, 0);

@@ -1,7 +1,8 @@
 // The answer to a message, written to the start of the lent buffer: the last column of document 01's
-// outcome table. The bytes are those of crate answers. Any buffer and any message are taken.
+// outcome table. The bytes are those of module bytes. Any buffer and any message are taken.
 mod bytes;
 
+pub use bytes::ANSWER_BYTES;
 ghost use mathlib.Core.Path.{_≡_};
 ghost use lib.ListN.{getD};
 ghost use mathlib.Core.Bool.{cond};
@@ -15,14 +16,15 @@ ghost use Rattle.message_operation.specs.Operation.{asked, rowIn};
 ghost use Rattle.message_answer.specs.Puts.{Puts};
 use crate::bytes::header;
 use crate::bytes::status_answer;
-use wire::put;
+use board::BoardMemory;
 use message_fields::answer_asked;
 use message_fields::kind_of;
-use result_numbers::outcome_number;
 use message_operation::row_in;
 use record::load;
+use result_numbers::outcome_number;
 use rules::Kind;
 use rules::Outcome;
+use wire::put;
 use wire::u16_at;
 
 // The first status word, which is the status now; 0 where there is none.
@@ -38,7 +40,7 @@ fn status_now(status: &[u32]) -> u32
 // Writes the ACK where an answer is asked for, and gives its length. That to get status has the
 // record and the status now, every other is the header alone.
 fn write_ack(
-    board: &[u8; 576],
+    board: &BoardMemory,
     answer: &mut [u8],
     message: &[u8],
     records: &[u32],
@@ -74,7 +76,7 @@ fn write_nak(answer: &mut [u8], message: &[u8]) -> usize
 // that is too short for the answer is left as it was; no outcome but R1, which has none, comes to that.
 // The outcome is tested before the flag, so that the compiler can join each refusal with its answer.
 pub fn write_answer(
-    board: &[u8; 576],
+    board: &BoardMemory,
     answer: &mut [u8],
     message: &[u8],
     outcome: Outcome,

@@ -2,14 +2,15 @@
 // rows above are passed when it is called. No record changes, so it gets none.
 ghost use Rattle.board.specs.Memory.{boardIn};
 ghost use Rattle.message_operation.specs.Operation.{asked, ReadsStatus};
+use access_rights::is_permitted;
+use board::BoardMemory;
 use board::ROWS;
 use message_operation::row_in;
-use access_rights::is_permitted;
 use rules::Outcome;
 
 // Get status: the sender is permitted, and there is a status word. No record changes.
 pub fn get_status(
-    board: &[u8; 576],
+    board: &BoardMemory,
     access: &[u16],
     channel: u8,
     message: &[u8],

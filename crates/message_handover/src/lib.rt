@@ -5,20 +5,22 @@ ghost use mathlib.Core.List.{[]};
 ghost use Rattle.rules.specs.declared.Kind.the-variants.{Handover};
 ghost use Rattle.board.specs.Memory.{boardIn};
 ghost use Rattle.message_operation.specs.Operation.{asked, Carries};
-use board::ROWS;
-use message_operation::row_in;
-use record::load;
 use access_rights::is_controller;
 use access_rights::is_permitted;
-use rules::Outcome;
+use board::BoardMemory;
+use board::ROWS;
+use message_operation::row_in;
+use record::RecordMemory;
+use record::load;
 use record::on_handover;
+use rules::Outcome;
 use wire::byte_at;
 
 // Handover: the sender is the controller, and the new host is permitted. The new host controls.
 pub fn handover(
-    board: &[u8; 576],
+    board: &BoardMemory,
     access: &[u16],
-    records: &mut [u32; 288],
+    records: &mut RecordMemory,
     channel: u8,
     message: &[u8],
 ) -> Outcome

@@ -1,5 +1,5 @@
 -- The rows from N4 on, as the functions test them: which outcome a test that holds gives, once those above it failed, and what that
--- leaves in the record memory. Once for every type; last, a request with its role. Assumes nothing.
+-- leaves in the record memory. Once for every type; last, a request with its role.
 use Prim.Native.Nat.{ℕ, _≤_, _<_}
 use mathlib.Core.Path.{_≡_, refl, sym, subst, subst⁻¹, ap, _∙_}
 use mathlib.Core.Bool.{Bool, true, false, cond, not}

@@ -1,4 +1,4 @@
--- The rows R3 and N9, which look at status words: of get status, and of wait status with what it reports. Assumes nothing.
+-- The rows R3 and N9, which look at status words: of get status, and of wait status with what it reports.
 use Prim.Native.Nat.{ℕ, _≤_, _<_}
 use mathlib.Core.Path.{_≡_, refl, sym, subst, _∙_}
 use mathlib.Core.Bool.{Bool, true, false, cond, or-false}

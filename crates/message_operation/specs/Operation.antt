@@ -1,5 +1,5 @@
 -- What a message of one type comes to once the rows R1 to N3 of "Outcomes" are passed: the rows from N4 on, and the effect of OK in the
--- lent record memory. Assumes nothing.
+-- lent record memory.
 use Prim.Native.Nat.{ℕ}
 use mathlib.Core.Path.{_≡_}
 use mathlib.Core.Bool.{cond, not}

@@ -6,6 +6,7 @@ ghost use Rattle.rules.specs.declared.Role.the-variants.{None};
 ghost use Rattle.rules.specs.Board.{rowOf};
 ghost use Rattle.rules.specs.Message.{processorOf};
 ghost use Rattle.board.specs.Memory.{boardIn};
+use board::BoardMemory;
 use board::row_of;
 use rules::Outcome;
 use rules::Role;
@@ -21,7 +22,7 @@ pub struct Decision {
 
 // The row of the processor that a message names, or a number from `ROWS` on where it is not on the
 // board.
-pub fn row_in(board: &[u8; 576], message: &[u8]) -> u8
+pub fn row_in(board: &BoardMemory, message: &[u8]) -> u8
     ensures { λ r. ⌜ r ≡ rowOf (boardIn (now (board .entry))) (processorOf (now (message .entry))) ⌝ }
 {
     row_of(board, byte_at(message, 8))

@@ -5,15 +5,22 @@ ghost use mathlib.Core.List.{[]};
 ghost use Rattle.rules.specs.declared.Kind.the-variants.{Release};
 ghost use Rattle.board.specs.Memory.{boardIn};
 ghost use Rattle.message_operation.specs.Operation.{asked, CarriesByController};
+use access_rights::is_controller;
+use board::BoardMemory;
 use board::ROWS;
 use message_operation::row_in;
+use record::RecordMemory;
 use record::load;
-use access_rights::is_controller;
-use rules::Outcome;
 use record::on_release;
+use rules::Outcome;
 
 // Release: the sender is the controller. The processor is free, and the other fields are kept.
-pub fn release(board: &[u8; 576], records: &mut [u32; 288], channel: u8, message: &[u8]) -> Outcome
+pub fn release(
+    board: &BoardMemory,
+    records: &mut RecordMemory,
+    channel: u8,
+    message: &[u8],
+) -> Outcome
     ensures { λ r. ⌜ CarriesByController (boardIn (now (board .entry))) Release (now (records .entry)) (asked channel (now (message .entry)) []) (now (records .exit)) r ⌝ }
 {
     if message.len() < 9 {

@@ -5,22 +5,24 @@ ghost use mathlib.Core.List.{[]};
 ghost use Rattle.board.specs.Memory.{boardIn};
 ghost use Rattle.message_operation.specs.Operation.{asked, CarriesRequest};
 use access::role_of;
+use access_rights::may_request;
+use board::BoardMemory;
 use board::ROWS;
 use message_operation::Decision;
 use message_operation::row_in;
 use message_operation::with_role;
+use record::RecordMemory;
 use record::load;
-use access_rights::may_request;
+use record::on_request;
 use rules::Outcome;
 use rules::Role;
-use record::on_request;
 
 // Request: the processor is free and the sender permitted, or the sender is its recovery master. The
 // sender controls. From N7 on its role is told.
 pub fn request(
-    board: &[u8; 576],
+    board: &BoardMemory,
     access: &[u16],
-    records: &mut [u32; 288],
+    records: &mut RecordMemory,
     channel: u8,
     message: &[u8],
 ) -> Decision

@@ -5,21 +5,23 @@ ghost use mathlib.Core.List.{[]};
 ghost use Rattle.rules.specs.declared.Kind.the-variants.{SetConfig};
 ghost use Rattle.board.specs.Memory.{boardIn};
 ghost use Rattle.message_operation.specs.Operation.{asked, CarriesByController};
+use access_rights::is_controller;
+use board::BoardMemory;
 use board::ROWS;
 use board::class_at;
-use flags::with_config;
 use flags::config_good;
+use flags::with_config;
 use message_operation::row_in;
-use record::store_own;
+use record::RecordMemory;
 use record::load;
-use access_rights::is_controller;
+use record::store_own;
 use rules::Outcome;
 
 // Set config: the sender is the controller, and flags and vector may be set. The config word is
 // changed, and the vector stored unless bit 28 is named.
 pub fn set_config(
-    board: &[u8; 576],
-    records: &mut [u32; 288],
+    board: &BoardMemory,
+    records: &mut RecordMemory,
     channel: u8,
     message: &[u8],
 ) -> Outcome

@@ -5,21 +5,23 @@ ghost use mathlib.Core.List.{[]};
 ghost use Rattle.rules.specs.declared.Kind.the-variants.{SetControl};
 ghost use Rattle.board.specs.Memory.{boardIn};
 ghost use Rattle.message_operation.specs.Operation.{asked, CarriesByController};
+use access_rights::is_controller;
+use board::BoardMemory;
 use board::ROWS;
 use board::class_at;
-use flags::with_control;
 use flags::control_good;
+use flags::with_control;
 use message_operation::row_in;
-use record::store_control;
+use record::RecordMemory;
 use record::load;
-use access_rights::is_controller;
+use record::store_control;
 use rules::Outcome;
 
 // Set control: the sender is the controller of the processor that it names, and the flags may be set.
 // The control word is changed, for its cluster too.
 pub fn set_control(
-    board: &[u8; 576],
-    records: &mut [u32; 288],
+    board: &BoardMemory,
+    records: &mut RecordMemory,
     channel: u8,
     message: &[u8],
 ) -> Outcome

@@ -8,13 +8,14 @@ ghost use Rattle.rules.specs.declared.Role.the-variants.{None};
 ghost use Rattle.rules.specs.Wait.{ranOut, checksOf, microsOf};
 ghost use Rattle.board.specs.Memory.{boardIn};
 ghost use Rattle.message_operation.specs.Operation.{asked, WaitsForStatus};
+use access_rights::is_permitted;
+use board::BoardMemory;
 use board::ROWS;
-use message_fields::wait_in;
 use flags::wait_good;
+use message_fields::wait_in;
 use message_operation::Decision;
 use message_operation::outcome_alone;
 use message_operation::row_in;
-use access_rights::is_permitted;
 use rules::Outcome;
 use rules::Role;
 use rules::Wait;
@@ -51,7 +52,7 @@ fn waited(w: Wait, status: &[u32]) -> Decision
 // Wait status: the sender is permitted, the wait asks for something that words can give, and there are
 // as many status words as it may check. No record changes.
 pub fn wait_status(
-    board: &[u8; 576],
+    board: &BoardMemory,
     access: &[u16],
     channel: u8,
     message: &[u8],

@@ -1,4 +1,4 @@
--- Which choices hold a cluster whole or not at all, on document 01's board and on a described one: the tests, computed. Assumes nothing.
+-- Which choices hold a cluster whole or not at all, on document 01's board and on a described one: the tests, computed.
 use mathlib.Core.Path.{_≡_, refl}
 use mathlib.Core.Bool.{true, false}
 use mathlib.Core.List.{[], _∷_}

@@ -1,5 +1,5 @@
 -- Demand 3 on document 01's board with a list that names all four processors: it holds of each choice that holds the cluster whole or not at
--- all, and of half the cluster it does not: what others send about the other half changes the chosen one's record. Assumes nothing.
+-- all, and of half the cluster it does not: what others send about the other half changes the chosen one's record.
 use Prim.Native.Nat.{ℕ}
 use mathlib.Core.Path.{_≡_, refl, sym, ap, _∙_}
 use mathlib.Core.Bool.{true}

@@ -1,5 +1,5 @@
 -- The theorem is not empty: on document 01's board it applies to the bench list with processors 1 and 2, alone and in a block, and says of two
--- sequences that differ in an outsider's calls and in offers that their picks get the same answers. Assumes nothing.
+-- sequences that differ in an outsider's calls and in offers that their picks get the same answers.
 use Prim.Native.Nat.{ℕ}
 use mathlib.Core.Path.{_≡_, refl}
 use mathlib.Core.List.{List, [], _∷_}

@@ -1,5 +1,5 @@
 -- The theorem for every description is not empty: on a described board, with a list that it accepts, demand 3 holds of an R5 processor alone, also
--- one of a cluster, and of a cluster of three ARMv8 processors. Assumes nothing.
+-- one of a cluster, and of a cluster of three ARMv8 processors.
 use Prim.Native.Nat.{ℕ}
 use mathlib.Core.Path.{_≡_, refl}
 use mathlib.Core.Bool.{true, false}

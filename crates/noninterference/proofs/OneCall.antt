@@ -1,5 +1,5 @@
 -- One call, from a state that a sequence from the start can leave: what it keeps, and what it gives in two states that agree on the
--- chosen processors. Assumes nothing.
+-- chosen processors.
 use Prim.Native.Nat.{ℕ}
 use mathlib.Core.Path.{_≡_, sym, subst, subst⁻¹, _∙_, ap, ap₂}
 use mathlib.Core.Bool.{true, false, not, _&&_}

@@ -1,4 +1,4 @@
--- Whole sequences: the picked answers and the chosen records of a sequence are those of its picks run alone. Assumes nothing.
+-- Whole sequences: the picked answers and the chosen records of a sequence are those of its picks run alone.
 use Prim.Native.Nat.{ℕ}
 use mathlib.Core.Path.{_≡_, refl, _∙_, ap₂}
 use mathlib.Core.Bool.{true, false}

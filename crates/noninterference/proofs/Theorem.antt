@@ -1,6 +1,6 @@
 -- Demand 3: noninterference, from every listed state that calls left, on document 01's board or on any that an accepted description gave, for any
 -- processors that the accepted list names, alone or in a block; the state that an accepted list or block leaves is such a start, and it depends on the
--- board in force and the list or block alone. Assumes nothing.
+-- board in force and the list or block alone.
 use Prim.Native.Nat.{ℕ}
 use mathlib.Core.Path.{_≡_, refl, sym, subst, subst⁻¹, _∙_, ap}
 use mathlib.Core.Bool.{true, false, cond, not, _&&_, _||_}

@@ -1,5 +1,5 @@
 -- "What demand 3 speaks of", and demand 3 as one claim about whole sequences of calls: `Noninterference`. Its theorem is in
--- proofs/Theorem.antt. The rules are those of crate `rules`, for the board in force. Crate traces says the same of the code. Assumes nothing.
+-- proofs/Theorem.antt. The rules are those of crate `rules`, for the board in force. Crate traces says the same of the code.
 use Prim.Native.Nat.{ℕ}
 use mathlib.Core.Path.{_≡_}
 use mathlib.Core.Bool.{Bool, true, false, cond, not, _&&_, _||_}

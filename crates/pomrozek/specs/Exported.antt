@@ -1,4 +1,4 @@
--- The calls as a C program sees them: the manager's promises, with numbers for verdict, outcome and role. Assumes nothing.
+-- The calls as a C program sees them: the manager's promises, with numbers for verdict, outcome and role.
 use Prim.Native.Nat.{ℕ}
 use mathlib.Core.Path.{_≡_}
 use mathlib.Core.List.{List, [], _∷_}

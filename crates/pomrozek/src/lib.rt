@@ -6,18 +6,21 @@ ghost use Rattle.rules.specs.Description.{ours};
 ghost use Rattle.board.specs.Memory.{boardIn, boardBytes};
 ghost use Rattle.call_message.specs.Calls.{lending};
 ghost use Rattle.pomrozek.specs.Exported.{ExportedBlock, ExportedBoard, ExportedList, ExportedMessage};
+use access::AccessMemory;
+use board::BoardMemory;
+use board_setup::start;
 use call_message::message;
-use result_numbers::outcome_number;
-use result_numbers::role_number;
-use result_numbers::verdict_number;
 use call_offer::offer_block;
 use call_offer::offer_board;
 use call_offer::offer_list;
-use board_setup::start;
+use record::RecordMemory;
+use result_numbers::outcome_number;
+use result_numbers::role_number;
+use result_numbers::verdict_number;
 
 // Fills the board memory with document 01's board, which stands until a description is taken.
 #[no_mangle]
-pub extern "C" fn pomrozek_start(board: &mut [u8; 576])
+pub extern "C" fn pomrozek_start(board: &mut BoardMemory)
     ensures { λ _. ⌜ now (board .exit) ≡ boardBytes ours ⌝ }
 {
     start(board)
@@ -26,8 +29,8 @@ pub extern "C" fn pomrozek_start(board: &mut [u8; 576])
 // Offers a board description and gives the verdict's number: 0 taken, 1 for A1, 200 + k for Dk.
 #[no_mangle]
 pub extern "C" fn pomrozek_board(
-    board: &mut [u8; 576],
-    access: &[u16; 129],
+    board: &mut BoardMemory,
+    access: &AccessMemory,
     description: &[u8],
 ) -> u32
     ensures { λ r. ⌜ ExportedBoard (now (board .entry)) (now (access .entry)) (now (description .entry)) (now (board .exit)) r ⌝ }
@@ -37,7 +40,7 @@ pub extern "C" fn pomrozek_board(
 
 // Offers an access list and gives the verdict's number: 0 accepted, k for Ak.
 #[no_mangle]
-pub extern "C" fn pomrozek_list(board: &[u8; 576], access: &mut [u16; 129], list: &[u8]) -> u32
+pub extern "C" fn pomrozek_list(board: &BoardMemory, access: &mut AccessMemory, list: &[u8]) -> u32
     ensures { λ r. ⌜ ExportedList (boardIn (now (board .entry))) (now (access .entry)) (now (list .entry)) (now (access .exit)) r ⌝ }
 {
     verdict_number(offer_list(board, access, list))
@@ -47,8 +50,8 @@ pub extern "C" fn pomrozek_list(board: &[u8; 576], access: &mut [u16; 129], list
 // accepted, k for Ak, 100 + k for Bk. The host of B8 goes to `found`, and 0 with any other verdict.
 #[no_mangle]
 pub extern "C" fn pomrozek_block(
-    board: &[u8; 576],
-    access: &mut [u16; 129],
+    board: &BoardMemory,
+    access: &mut AccessMemory,
     major: u8,
     minor: u8,
     block: &[u8],
@@ -75,9 +78,9 @@ fn narrow(written: usize) -> u32
 // the microseconds, the number of bytes written and the role's number go to `report`.
 #[no_mangle]
 pub extern "C" fn pomrozek_message(
-    board: &[u8; 576],
-    access: &[u16; 129],
-    records: &mut [u32; 288],
+    board: &BoardMemory,
+    access: &AccessMemory,
+    records: &mut RecordMemory,
     channel: u8,
     request: &[u8],
     status: &[u32],

@@ -1,4 +1,4 @@
--- The controller and one tally changed in place are what the rules leave at the row: the other words stand. Assumes nothing.
+-- The controller and one tally changed in place are what the rules leave at the row: the other words stand.
 use Prim.Native.Nat.{ℕ, suc, _+_, _*_, _≤_, _<_}
 use mathlib.Core.Path.{_≡_, refl, sym, ap, _∙_}
 use mathlib.Core.Bool.{true, false}

@@ -1,5 +1,5 @@
 -- The laws of the lent memory: a record that was stored is read back, at its row and at no other, and its control word at its home and at
--- no other; what a call sees of the processor that it names is what stands at its row and home. For any board. Assumes nothing.
+-- no other; what a call sees of the processor that it names is what stands at its row and home. For any board.
 use Prim.Native.Nat.{ℕ, zero, suc, _+_, _*_, _≤_, _<_, suc-le-suc}
 use mathlib.Core.Path.{_≡_, refl, sym, subst⁻¹, ap, ap₂, _∙_}
 use mathlib.Core.List.{List, [], _∷_}

@@ -1,5 +1,4 @@
 -- What a message that changes the controller leaves at a row of the record memory: the controller and the tallies of the effect of OK (document 02, L10).
--- Assumes nothing.
 use Prim.Native.Nat.{ℕ}
 use mathlib.Core.List.{List}
 use Rattle.rules.specs.declared.Kind.{Kind}

@@ -1,6 +1,5 @@
 -- The record memory, 288 words of 32 bits: each of 32 rows has eight words, the controller (0 for none), vector low and high, config, and the four
--- tallies; then there is a control word for each home. With board and access memory it holds the rules' state, whatever the content. Assumes
--- nothing.
+-- tallies; then there is a control word for each home. With board and access memory it holds the rules' state, whatever the content.
 use Prim.Native.Nat.{ℕ, _+_, _*_}
 use mathlib.Core.Bool.{cond}
 use mathlib.Core.List.{List, [], _∷_}

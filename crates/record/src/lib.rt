@@ -8,23 +8,48 @@ pub use store::store_own;
 pub use tally::on_handover;
 pub use tally::on_release;
 pub use tally::on_request;
-
 ghost use Prim.Native.Nat.{_<_};
 ghost use mathlib.Core.Path.{_≡_};
 ghost use lib.ListN.{getD};
 ghost use Rattle.rules.specs.Board.{homeAt};
 ghost use Rattle.board.specs.Memory.{boardIn};
 ghost use Rattle.record.specs.Memory.{ownAt, controlPlace, recordAt};
+use board::BoardMemory;
 use board::ROWS;
 use board::home_at;
 use rules::Record;
 use rules::Tallies;
 
+// The record memory: eight words for each row, then a control word for each home.
+pub const RECORD_WORDS: usize = 288;
+
+pub type RecordMemory = [u32; RECORD_WORDS];
+
+// How many words a row has, and the place of each but the first, the controller.
+const ROW_WORDS: usize = 8;
+
+const LOW: usize = 1;
+
+const HIGH: usize = 2;
+
+const CONFIG: usize = 3;
+
+const GRANTS: usize = 4;
+
+const OVERRIDES: usize = 5;
+
+const HANDOVERS: usize = 6;
+
+const RELEASES: usize = 7;
+
+// Where the control words begin.
+const CONTROLS: usize = 256;
+
 // The place of the control word of the processor at `row`: at its home, which its cluster shares.
-pub fn control_place(board: &[u8; 576], row: u8) -> usize
+pub fn control_place(board: &BoardMemory, row: u8) -> usize
     ensures { λ r. ⌜ (r ≡ controlPlace (homeAt (boardIn (now (board .entry))) row)) × (r < 288) ⌝ }
 {
-    256 + home_at(board, row) as usize
+    CONTROLS + home_at(board, row) as usize
 }
 
 // The word at place `i`; past the end there are zeros.
@@ -41,27 +66,27 @@ fn word_at(records: &[u32], i: usize) -> u32
 fn load_tallies(records: &[u32], row: u8) -> Tallies
     ensures { λ r. ⌜ r ≡ ownAt (now (records .entry)) row .tallies ⌝ }
 {
-    let at = 8 * (row as usize);
+    let at = ROW_WORDS * (row as usize);
     Tallies {
-        grants: word_at(records, at + 4),
-        overrides: word_at(records, at + 5),
-        handovers: word_at(records, at + 6),
-        releases: word_at(records, at + 7),
+        grants: word_at(records, at + GRANTS),
+        overrides: word_at(records, at + OVERRIDES),
+        handovers: word_at(records, at + HANDOVERS),
+        releases: word_at(records, at + RELEASES),
     }
 }
 
 // The record at `row`. At a row that is not there all is 0 but the control word.
-pub fn load(board: &[u8; 576], records: &[u32], row: u8) -> Record
+pub fn load(board: &BoardMemory, records: &[u32], row: u8) -> Record
     ensures { λ r. ⌜ r ≡ recordAt (boardIn (now (board .entry))) (now (records .entry)) row ⌝ }
 {
     let control = word_at(records, control_place(board, row));
     if row < ROWS {
-        let at = 8 * (row as usize);
+        let at = ROW_WORDS * (row as usize);
         return Record {
             controller: word_at(records, at),
-            low: word_at(records, at + 1),
-            high: word_at(records, at + 2),
-            config: word_at(records, at + 3),
+            low: word_at(records, at + LOW),
+            high: word_at(records, at + HIGH),
+            config: word_at(records, at + CONFIG),
             control,
             tallies: load_tallies(records, row),
         };

@@ -7,22 +7,19 @@ ghost use lib.ListN.{getD, set};
 ghost use Rattle.rules.specs.declared.Kind.the-variants.{Request, Release, Handover};
 ghost use Rattle.rules.specs.Tally.{oneMore};
 ghost use Rattle.record.specs.Holder.{withHolder};
+use crate::GRANTS;
+use crate::HANDOVERS;
+use crate::OVERRIDES;
+use crate::RELEASES;
+use crate::ROW_WORDS;
+use crate::RecordMemory;
 use board::ROWS;
 
 // Where a tally stays.
 const CAP: u32 = 4_294_967_295;
 
-// The places of the tallies behind the first word of a row.
-const GRANTS: usize = 4;
-
-const OVERRIDES: usize = 5;
-
-const HANDOVERS: usize = 6;
-
-const RELEASES: usize = 7;
-
 // One more in the tally at place `at`, up to the cap.
-fn count(records: &mut [u32; 288], at: usize)
+fn count(records: &mut RecordMemory, at: usize)
     requires { ⌜ at < 288 ⌝ }
     ensures { λ _. ⌜ now (records .exit) ≡ set (now (records .entry)) at (oneMore (getD (now (records .entry)) at 0)) ⌝ }
 {
@@ -34,13 +31,13 @@ fn count(records: &mut [u32; 288], at: usize)
 
 // A request: `host` controls the processor at `row`. That is a grant where it was free, an override where
 // another host held it, and nothing where `host` did.
-pub fn on_request(records: &mut [u32; 288], row: u8, host: u8)
+pub fn on_request(records: &mut RecordMemory, row: u8, host: u8)
     ensures { λ _. ⌜ now (records .exit) ≡ withHolder Request (now (records .entry)) row host ⌝ }
 {
     if ROWS <= row {
         return;
     }
-    let at = 8 * (row as usize);
+    let at = ROW_WORDS * (row as usize);
     let before = records[at];
     records[at] = host as u32;
     if before == 0 {
@@ -54,13 +51,13 @@ pub fn on_request(records: &mut [u32; 288], row: u8, host: u8)
 }
 
 // A handover: `host` controls the processor at `row`. It counts unless `host` did before.
-pub fn on_handover(records: &mut [u32; 288], row: u8, host: u8)
+pub fn on_handover(records: &mut RecordMemory, row: u8, host: u8)
     ensures { λ _. ⌜ now (records .exit) ≡ withHolder Handover (now (records .entry)) row host ⌝ }
 {
     if ROWS <= row {
         return;
     }
-    let at = 8 * (row as usize);
+    let at = ROW_WORDS * (row as usize);
     let before = records[at];
     records[at] = host as u32;
     if before != host as u32 {
@@ -69,13 +66,13 @@ pub fn on_handover(records: &mut [u32; 288], row: u8, host: u8)
 }
 
 // A release: the processor at `row` is free.
-pub fn on_release(records: &mut [u32; 288], row: u8)
+pub fn on_release(records: &mut RecordMemory, row: u8)
     ensures { λ _. ⌜ now (records .exit) ≡ withHolder Release (now (records .entry)) row 0 ⌝ }
 {
     if ROWS <= row {
         return;
     }
-    let at = 8 * (row as usize);
+    let at = ROW_WORDS * (row as usize);
     records[at] = 0;
     count(records, at + RELEASES);
 }

@@ -1,4 +1,4 @@
--- What stands at a place of a buffer, by the tests that lead there. Assumes nothing.
+-- What stands at a place of a buffer, by the tests that lead there.
 use Prim.Native.Nat.{ℕ, _+_, _-_, _≤_, _<_}
 use mathlib.Core.Path.{_≡_, refl, sym, ap, _∙_}
 use mathlib.Core.Logic.{⊎-elim}

@@ -1,4 +1,4 @@
--- The status words of a body: how many, and which. Assumes nothing.
+-- The status words of a body: how many, and which.
 use Prim.Native.Nat.{ℕ, zero, suc, _+_, _*_, _/_, _≤_, _<_, min}
 use mathlib.Core.Path.{_≡_, refl, sym, ap, _∙_}
 use mathlib.Core.List.{List, _++_}

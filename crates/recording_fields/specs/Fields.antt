@@ -1,6 +1,5 @@
 -- "Session recordings": tagged fields, a one-byte tag, a two-byte little-endian length, and the body. What stands at a place of a buffer,
 -- with the tags and lengths of crate tags. A bad tag is judged alone; a length once both its bytes are there and before the body.
--- Assumes nothing.
 use Prim.Native.Nat.{ℕ, _+_, _-_}
 use mathlib.Core.Bool.{not}
 use mathlib.Core.List.{List, [], _∷_}

@@ -1,4 +1,4 @@
--- "Session recordings": which tags are good, and which lengths a field of each may have; tags 4 and 6 are document 02's. Assumes nothing.
+-- "Session recordings": which tags are good, and which lengths a field of each may have; tags 4 and 6 are document 02's.
 use Prim.Native.Nat.{ℕ, _%_}
 use mathlib.Core.Bool.{Bool, false, _&&_, _||_}
 use mathlib.Core.List.{[], _∷_}

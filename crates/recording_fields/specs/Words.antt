@@ -1,4 +1,4 @@
--- "Session recordings": the status words that a field's body holds. Assumes nothing.
+-- "Session recordings": the status words that a field's body holds.
 use Prim.Native.Nat.{ℕ, zero, suc, _*_, _/_}
 use mathlib.Core.List.{List, [], _∷_}
 use lib.ListN.{length}

@@ -6,9 +6,14 @@ ghost use Rattle.rules.specs.Answer.{bufferAfter};
 ghost use Rattle.recording_fields.specs.Words.{wordsOf};
 use wire::joined;
 
+// As many status words as the largest field holds, 1,020 bytes.
+pub const STATUS_WORDS: usize = 255;
+
+pub type StatusWords = [u32; STATUS_WORDS];
+
 // Takes the status words of a field's body to the start of `words`, as many as there is room for, and
 // gives their number. A body of 1,020 bytes fills it.
-pub fn take_words(body: &[u8], words: &mut [u32; 255]) -> usize
+pub fn take_words(body: &[u8], words: &mut StatusWords) -> usize
     ensures { λ r. ⌜ r ≡ length (take 255 (wordsOf (now (body .entry)))) ⌝ }
     ensures { λ r. ⌜ r ≤ 255 ⌝ }
     ensures { λ _. ⌜ now (words .exit) ≡ bufferAfter (take 255 (wordsOf (now (body .entry)))) (now (words .entry)) ⌝ }

@@ -1,4 +1,4 @@
--- The decimal digits of a number: how many there are at most, and how they are laid over a line from the last on. Assumes nothing.
+-- The decimal digits of a number: how many there are at most, and how they are laid over a line from the last on.
 use Prim.Native.Nat.{ℕ, zero, suc, _+_, _-_, _/_, _%_, _≤_, _<_}
 use mathlib.Core.Path.{_≡_, refl, sym, ap, ap₂, _∙_}
 use mathlib.Core.List.{List, [], _∷_, _++_}

@@ -1,4 +1,4 @@
--- Text laid over a buffer: one more byte, and one more piece. Assumes nothing.
+-- Text laid over a buffer: one more byte, and one more piece.
 use Prim.Native.Nat.{ℕ, suc, _+_, _*_, _/_, _%_, _≤_, _<_}
 use mathlib.Core.Path.{_≡_, refl, sym, ap, ap₂, _∙_}
 use mathlib.Core.List.{List, [], _∷_, _++_, append-assoc}

@@ -1,4 +1,4 @@
--- The line of an offer: a word put at the start of a line, and a name behind it, in the part of the line that begins there. Assumes nothing.
+-- The line of an offer: a word put at the start of a line, and a name behind it, in the part of the line that begins there.
 use Prim.Native.Nat.{ℕ, _+_, _-_, _≤_}
 use mathlib.Core.Path.{_≡_, sym, ap, ap₂, _∙_, subst}
 use mathlib.Core.Bool.{cond}

@@ -1,4 +1,4 @@
--- The line that a message prints, as ASCII. Assumes nothing.
+-- The line that a message prints, as ASCII.
 use Prim.Native.Nat.{ℕ}
 use mathlib.Core.Bool.{cond}
 use mathlib.Core.List.{List, [], _∷_, _++_}

@@ -1,4 +1,4 @@
--- The lines that a list, a block and a board description print. As ASCII. Assumes nothing.
+-- The lines that a list, a block and a board description print. As ASCII.
 use Prim.Native.Nat.{ℕ}
 use mathlib.Core.List.{List, [], _∷_, _++_}
 use Rattle.rules.specs.declared.Verdict.{Verdict}

@@ -1,4 +1,4 @@
-// TODO head
+// The lines that a session prints: of a message, and of an offer. The rules are in specs/.
 mod message;
 mod offer;
 

@@ -10,12 +10,12 @@ ghost use Rattle.rules.specs.Outcome.{outcomeNumber};
 ghost use Rattle.recording_texts.specs.Digits.{decimalOf, hexOf};
 ghost use Rattle.recording_texts.specs.Texts.{laid, hasRoom, printed, Printed};
 ghost use Rattle.recording_lines.specs.Lines.{answerText, outcomeText, messageLine};
+use recording_texts::LINE_BYTES;
 use recording_texts::digit_count;
 use recording_texts::hex_digit;
+use recording_texts::outcome_name;
 use rules::Outcome;
 use rules::Report;
-use recording_texts::ROOM;
-use recording_texts::outcome_name;
 
 // Lays `bytes` over the line.
 fn append(line: &mut [u8], at: usize, bytes: &[u8]) -> usize
@@ -120,7 +120,7 @@ fn write_line(line: &mut [u8], outcome: Outcome, checks: u32, micros: u32, bytes
 pub fn print_message(line: &mut [u8], told: Report, bytes: &[u8]) -> usize
     ensures { λ r. ⌜ Printed (now (line .entry)) (printed (hasRoom (now (line .entry)) && leb (length (now (bytes .entry))) 29) (messageLine told (now (bytes .entry)))) (now (line .exit)) r ⌝ }
 {
-    if line.len() < ROOM {
+    if line.len() < LINE_BYTES {
         return 0;
     }
     if 29 < bytes.len() {

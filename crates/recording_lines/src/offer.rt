@@ -4,10 +4,10 @@ ghost use Prim.Native.Nat.{_≤_};
 ghost use lib.ListN.{length};
 ghost use Rattle.recording_texts.specs.Texts.{hasRoom, printed, Printed};
 ghost use Rattle.recording_lines.specs.Offers.{offerLine, listWord, blockWord, boardWord};
-use wire::put;
-use rules::Verdict;
-use recording_texts::ROOM;
+use recording_texts::LINE_BYTES;
 use recording_texts::verdict_text;
+use rules::Verdict;
+use wire::put;
 
 // The line of an offer, which begins with `word`, with the host that B8 reports. Gives its length: 0 where
 // there is no room, and nothing is written.
@@ -15,7 +15,7 @@ fn print_offer(line: &mut [u8], word: &[u8], verdict: Verdict, host: u8) -> usiz
     requires { ⌜ length (now word) ≤ 88 ⌝ }
     ensures { λ r. ⌜ Printed (now (line .entry)) (printed (hasRoom (now (line .entry))) (offerLine (now (word .entry)) verdict host)) (now (line .exit)) r ⌝ }
 {
-    if line.len() < ROOM {
+    if line.len() < LINE_BYTES {
         return 0;
     }
     let text = verdict_text(verdict, host);

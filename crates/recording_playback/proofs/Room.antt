@@ -1,4 +1,4 @@
--- The place of the next line, and what a bad record ends. Assumes nothing.
+-- The place of the next line, and what a bad record ends.
 use Prim.Native.Nat.{ℕ, _+_, _-_, _≤_}
 use mathlib.Core.Path.{_≡_, ap, _∙_}
 use mathlib.Core.Bool.{Bool, true, false, _&&_, not}

@@ -1,4 +1,4 @@
--- Fields in their order, and what is left over. Assumes nothing.
+-- Fields in their order, and what is left over.
 use Prim.Native.Nat.{ℕ, zero, suc, _+_, _-_, _≤_, min}
 use mathlib.Core.Path.{_≡_, refl, sym, ap, ap₂, _∙_, subst, subst⁻¹}
 use mathlib.Core.Bool.{Bool, true, false}

@@ -1,4 +1,4 @@
--- "Session recordings": a bad record ends the session. Assumes nothing.
+-- "Session recordings": a bad record ends the session.
 use mathlib.Core.Bool.{Bool, true, false}
 use Rattle.recording_fields.specs.declared.field.Found.{Found}
 use Rattle.recording_fields.specs.declared.field.Found.the-variants.{Whole, Bad, Partial, Nothing}

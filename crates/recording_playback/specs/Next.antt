@@ -1,4 +1,4 @@
--- What comes next in a buffer that is played: a whole field and the place of its line, or the end of the playing. Assumes nothing.
+-- What comes next in a buffer that is played: a whole field and the place of its line, or the end of the playing.
 use Prim.Native.Nat.{ℕ, _+_, _-_, _≤_}
 use mathlib.Core.Path.{_≡_}
 use mathlib.Core.Bool.{Bool, true, false}

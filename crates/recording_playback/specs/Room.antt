@@ -1,4 +1,4 @@
--- Where the next line goes. Assumes nothing.
+-- Where the next line goes.
 use Prim.Native.Nat.{ℕ, _-_}
 use mathlib.Core.Bool.{Bool, cond}
 use mathlib.Core.List.{List}

@@ -1,4 +1,4 @@
--- A session between two reads: fields carried out in their order, and what is left over. Assumes nothing.
+-- A session between two reads: fields carried out in their order, and what is left over.
 use Prim.Native.Nat.{ℕ, _+_, _-_, _≤_}
 use mathlib.Core.Path.{_≡_}
 use mathlib.Core.Bool.{Bool, true}

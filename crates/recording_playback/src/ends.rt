@@ -7,7 +7,7 @@ ghost use Prim.Native.Nat.{_-_};
 ghost use lib.Dec.{leb};
 ghost use Rattle.recording_playback.specs.Ends.{isBad};
 use recording_fields::Found;
-use recording_texts::ROOM;
+use recording_texts::LINE_BYTES;
 
 // Lines gathered: how many bytes, and whether the write went well, if there was one.
 pub struct Gathered {
@@ -76,5 +76,5 @@ pub fn has_room(size: usize, used: usize) -> bool
     if size < used {
         return false;
     }
-    ROOM <= size - used
+    LINE_BYTES <= size - used
 }

@@ -1,11 +1,11 @@
 // What comes next in a buffer that is played: a whole field, with room for its line, or the end. The rule
 // is specs/Next.antt.
-use recording_fields::Found;
-use recording_fields::find;
-use crate::output::make_room;
-use crate::output::stopped;
 use crate::ends::Progress;
 use crate::ends::ended;
+use crate::output::make_room;
+use crate::output::stopped;
+use recording_fields::Found;
+use recording_fields::find;
 ghost use Rattle.recording_playback.specs.Next.{Comes};
 
 // What comes next.

@@ -4,11 +4,15 @@ mod ends;
 mod finding;
 mod output;
 
-use wire::move_down;
-use recording_step::play_field;
 use crate::ends::Progress;
 use crate::finding::Next;
 use crate::finding::next_field;
+use access::AccessMemory;
+use board::BoardMemory;
+use record::RecordMemory;
+use recording_fields::StatusWords;
+use recording_step::play_field;
+use wire::move_down;
 ghost use Prim.Native.Nat.{_≤_, min};
 ghost use lib.ListN.{length, take};
 ghost use mathlib.Core.Path.{_≡_};
@@ -21,10 +25,10 @@ ghost use Rattle.recording_playback.specs.Session.{LeftOver, memories, R
 // at the end. A bad record and a write that fails end the session: it goes on only where no whole field
 // is left.
 fn play(
-    board: &mut [u8; 576],
-    access: &mut [u16; 129],
-    records: &mut [u32; 288],
-    words: &mut [u32; 255],
+    board: &mut BoardMemory,
+    access: &mut AccessMemory,
+    records: &mut RecordMemory,
+    words: &mut StatusWords,
     count: u8,
     input: &[u8],
     output: &mut [u8],
@@ -79,10 +83,10 @@ fn within(end: usize) -> usize
 // Plays the bytes of `input` up to `end`, or all of them where it has no more, and moves what is left over
 // to its start.
 pub fn play_held(
-    board: &mut [u8; 576],
-    access: &mut [u16; 129],
-    records: &mut [u32; 288],
-    words: &mut [u32; 255],
+    board: &mut BoardMemory,
+    access: &mut AccessMemory,
+    records: &mut RecordMemory,
+    words: &mut StatusWords,
     count: u8,
     input: &mut [u8; 65536],
     end: usize,

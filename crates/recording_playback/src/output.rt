@@ -1,8 +1,6 @@
 // The printed lines of a session on their way out: they are gathered, and written where no room is left
 // and at the end. No contract can say what is written, so what a write answered goes through functions
 // that promise what is reported. The rules are specs/Room.antt.
-use recording_fields::Found;
-use io::write_all;
 use crate::ends::Gathered;
 use crate::ends::Progress;
 use crate::ends::Written;
@@ -11,6 +9,8 @@ use crate::ends::both;
 use crate::ends::ended;
 use crate::ends::has_room;
 use crate::ends::is_bad;
+use io::write_all;
+use recording_fields::Found;
 use recording_texts::bad_line;
 ghost use Prim.Native.Nat.{_+_, _≤_};
 ghost use lib.ListN.{length, take};

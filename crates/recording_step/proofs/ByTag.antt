@@ -1,4 +1,4 @@
--- A field carried out by its tag. Assumes nothing.
+-- A field carried out by its tag.
 use Prim.Native.Nat.{ℕ}
 use mathlib.Core.Path.{_≡_, refl, sym, ap, _∙_}
 use mathlib.Core.Bool.{Bool, true, false, _||_}

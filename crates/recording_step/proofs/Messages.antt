@@ -1,4 +1,4 @@
--- A message carried out, from what the calls give: with room for a line, and without. Assumes nothing.
+-- A message carried out, from what the calls give: with room for a line, and without.
 use Prim.Native.Nat.{ℕ, _≤_, _<_}
 use mathlib.Core.Path.{_≡_, refl, ap, ap₂, _∙_, subst⁻¹}
 use mathlib.Core.Bool.{_&&_}

@@ -1,4 +1,4 @@
--- An offer carried out by its tag. Assumes nothing.
+-- An offer carried out by its tag.
 use Prim.Native.Nat.{ℕ}
 use mathlib.Core.Path.{_≡_, refl}
 use mathlib.Core.List.{List}

@@ -1,4 +1,4 @@
--- An offer carried out, from what the calls give: with room for a line, and without. Assumes nothing.
+-- An offer carried out, from what the calls give: with room for a line, and without.
 use Prim.Native.Nat.{ℕ, _≤_, _<_}
 use mathlib.Core.Path.{_≡_, ap₂, subst}
 use mathlib.Core.List.{List}

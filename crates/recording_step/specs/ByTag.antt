@@ -1,4 +1,4 @@
--- How a whole field is carried out, by its tag. Assumes nothing.
+-- How a whole field is carried out, by its tag.
 use Prim.Native.Nat.{ℕ}
 use mathlib.Core.Path.{_≡_}
 use mathlib.Core.List.{List}

@@ -1,4 +1,4 @@
--- How an offer is carried out, by its tag. Assumes nothing.
+-- How an offer is carried out, by its tag.
 use Prim.Native.Nat.{ℕ, _≤_}
 use mathlib.Core.Path.{_≡_}
 use mathlib.Core.List.{List}

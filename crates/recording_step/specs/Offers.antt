@@ -1,5 +1,5 @@
 -- What carrying out an offer leaves: the line it prints, laid over the start of what is lent, and the memory that it may change. Where less
--- than 96 bytes are lent, which any line fits, nothing is carried out. Assumes nothing.
+-- than 96 bytes are lent, which any line fits, nothing is carried out.
 use Prim.Native.Nat.{ℕ}
 use mathlib.Core.Path.{_≡_}
 use mathlib.Core.Bool.{cond}

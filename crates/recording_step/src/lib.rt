@@ -4,8 +4,12 @@ mod message;
 mod offer;
 mod offer_tag;
 
-use crate::offer_tag::play_offer;
 use crate::message::message_line;
+use crate::offer_tag::play_offer;
+use access::AccessMemory;
+use board::BoardMemory;
+use record::RecordMemory;
+use recording_fields::StatusWords;
 use recording_fields::take_words;
 ghost use Prim.Native.Nat.{_≤_};
 ghost use Rattle.recording_step.specs.ByTag.{PlayedField};
@@ -18,10 +22,10 @@ pub struct Played {
 
 // Carries out a whole field, and writes the line that it prints, if any, over the start of `line`.
 pub fn play_field(
-    board: &mut [u8; 576],
-    access: &mut [u16; 129],
-    records: &mut [u32; 288],
-    words: &mut [u32; 255],
+    board: &mut BoardMemory,
+    access: &mut AccessMemory,
+    records: &mut RecordMemory,
+    words: &mut StatusWords,
     count: u8,
     tag: u8,
     body: &[u8],

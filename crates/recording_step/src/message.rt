@@ -4,9 +4,13 @@ ghost use mathlib.Core.Path.{_≡_};
 ghost use lib.ListN.{drop};
 ghost use Rattle.board.specs.Memory.{boardIn};
 ghost use Rattle.recording_step.specs.Played.{PlayedMessage};
-use recording_lines::print_message;
+use access::AccessMemory;
+use board::BoardMemory;
 use call_message::message;
-use recording_texts::ROOM;
+use message_answer::ANSWER_BYTES;
+use record::RecordMemory;
+use recording_lines::print_message;
+use recording_texts::LINE_BYTES;
 use wire::byte_at;
 
 // All of a field's body but its first byte.
@@ -22,19 +26,19 @@ fn after_first(body: &[u8]) -> &[u8]
 // Carries out a message field with these status words, and writes its line over the start of `line`. Gives
 // the line's length. Where there is no room for a line, nothing is carried out.
 pub fn message_line(
-    board: &[u8; 576],
-    access: &[u16; 129],
-    records: &mut [u32; 288],
+    board: &BoardMemory,
+    access: &AccessMemory,
+    records: &mut RecordMemory,
     body: &[u8],
     status: &[u32],
     line: &mut [u8],
 ) -> usize
     ensures { λ r. ⌜ PlayedMessage (boardIn (now (board .entry))) (now (access .entry)) (now (records .entry)) (now (body .entry)) (now (status .entry)) (now (line .entry)) (now (records .exit)) (now (line .exit)) r ⌝ }
 {
-    if line.len() < ROOM {
+    if line.len() < LINE_BYTES {
         return 0;
     }
-    let mut answer = [0u8; 29];
+    let mut answer = [0u8; ANSWER_BYTES];
     let channel = byte_at(body, 0);
     let told = message(
         board,

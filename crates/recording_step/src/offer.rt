@@ -2,40 +2,57 @@
 // that it prints. The rules are specs/Offers.antt.
 ghost use Rattle.board.specs.Memory.{boardIn};
 ghost use Rattle.recording_step.specs.Offers.{PlayedBlock, PlayedBoard, PlayedList};
-use recording_lines::print_block;
-use recording_lines::print_board;
-use recording_lines::print_list;
+use access::AccessMemory;
+use board::BoardMemory;
 use call_offer::offer_block;
 use call_offer::offer_board;
 use call_offer::offer_list;
-use recording_texts::ROOM;
+use recording_lines::print_block;
+use recording_lines::print_board;
+use recording_lines::print_list;
+use recording_texts::LINE_BYTES;
 
 // Carries out a board field, and writes its line over the start of `line`. Gives the line's length.
 // Where there is no room for a line, nothing is carried out.
-pub fn board_line(board: &mut [u8; 576], access: &[u16; 129], body: &[u8], line: &mut [u8]) -> usize
+pub fn board_line(
+    board: &mut BoardMemory,
+    access: &AccessMemory,
+    body: &[u8],
+    line: &mut [u8],
+) -> usize
     ensures { λ r. ⌜ PlayedBoard (now (board .entry)) (now (access .entry)) (now (body .entry)) (now (line .entry)) (now (board .exit)) (now (line .exit)) r ⌝ }
 {
-    if line.len() < ROOM {
+    if line.len() < LINE_BYTES {
         return 0;
     }
     print_board(line, offer_board(board, access, body))
 }
 
 // Carries out a list field in the same way.
-pub fn list_line(board: &[u8; 576], access: &mut [u16; 129], body: &[u8], line: &mut [u8]) -> usize
+pub fn list_line(
+    board: &BoardMemory,
+    access: &mut AccessMemory,
+    body: &[u8],
+    line: &mut [u8],
+) -> usize
     ensures { λ r. ⌜ PlayedList (boardIn (now (board .entry))) (now (access .entry)) (now (body .entry)) (now (line .entry)) (now (access .exit)) (now (line .exit)) r ⌝ }
 {
-    if line.len() < ROOM {
+    if line.len() < LINE_BYTES {
         return 0;
     }
     print_list(line, offer_list(board, access, body))
 }
 
 // Carries out a block field in the same way; its ABI bytes must be 0 and 1.
-pub fn block_line(board: &[u8; 576], access: &mut [u16; 129], body: &[u8], line: &mut [u8]) -> usize
+pub fn block_line(
+    board: &BoardMemory,
+    access: &mut AccessMemory,
+    body: &[u8],
+    line: &mut [u8],
+) -> usize
     ensures { λ r. ⌜ PlayedBlock (boardIn (now (board .entry))) (now (access .entry)) (now (body .entry)) (now (line .entry)) (now (access .exit)) (now (line .exit)) r ⌝ }
 {
-    if line.len() < ROOM {
+    if line.len() < LINE_BYTES {
         return 0;
     }
     let report = offer_block(board, access, 0, 1, body);

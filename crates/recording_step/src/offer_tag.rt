@@ -4,11 +4,13 @@ ghost use Rattle.recording_step.specs.OfferByTag.{OfferField};
 use crate::offer::block_line;
 use crate::offer::board_line;
 use crate::offer::list_line;
+use access::AccessMemory;
+use board::BoardMemory;
 
 // Carries out an offer by its tag, and writes its line: 1 a list, 4 a block, any other a board description.
 pub fn play_offer(
-    board: &mut [u8; 576],
-    access: &mut [u16; 129],
+    board: &mut BoardMemory,
+    access: &mut AccessMemory,
     tag: u8,
     body: &[u8],
     line: &mut [u8],

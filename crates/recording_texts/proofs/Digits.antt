@@ -1,4 +1,4 @@
--- The decimal digits of a number, and how many they are. Assumes nothing.
+-- The decimal digits of a number, and how many they are.
 use Prim.Native.Nat.{ℕ, zero, suc, _+_, _/_, _%_, _^_, _≤_, _<_}
 use mathlib.Core.Path.{_≡_, sym, ap, _∙_}
 use mathlib.Core.List.{List, [], _∷_, _++_}

@@ -1,4 +1,4 @@
--- The lines of verdicts, byte by byte. Assumes nothing.
+-- The lines of verdicts, byte by byte.
 use Prim.Native.Nat.{ℕ, _+_, _-_, _/_, _%_, _≤_, _<_}
 use mathlib.Core.Path.{_≡_, refl, sym, ap, ap₂, _∙_}
 use mathlib.Core.List.{List, [], _∷_, _++_}

@@ -1,4 +1,4 @@
--- A whole line printed, or nothing. Assumes nothing.
+-- A whole line printed, or nothing.
 use Prim.Native.Nat.{ℕ, _≤_}
 use mathlib.Core.Path.{_≡_}
 use mathlib.Core.Bool.{Bool, true, false}

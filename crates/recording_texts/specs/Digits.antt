@@ -1,4 +1,4 @@
--- Numbers as digits, in ASCII: decimal and hexadecimal. Assumes nothing.
+-- Numbers as digits, in ASCII: decimal and hexadecimal.
 use Prim.Native.Nat.{ℕ, zero, suc, _+_, _/_, _%_}
 use mathlib.Core.Bool.{cond}
 use mathlib.Core.List.{List, [], _∷_, _++_}

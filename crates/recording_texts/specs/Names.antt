@@ -1,4 +1,4 @@
--- What is printed of a verdict, by its number, as ASCII. Assumes nothing.
+-- What is printed of a verdict, by its number, as ASCII.
 use Prim.Native.Nat.{ℕ, _-_, _%_}
 use mathlib.Core.Bool.{cond}
 use mathlib.Core.List.{List, [], _∷_, _++_}

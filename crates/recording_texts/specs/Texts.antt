@@ -1,4 +1,4 @@
--- The names of outcomes, the fixed lines, and how a line is laid over a buffer. As ASCII. Assumes nothing.
+-- The names of outcomes, the fixed lines, and how a line is laid over a buffer. As ASCII.
 use Prim.Native.Nat.{ℕ, _+_, _-_, _≤_}
 use mathlib.Core.Path.{_≡_}
 use mathlib.Core.Bool.{Bool, cond}

@@ -8,7 +8,7 @@ use result_numbers::outcome_number;
 use rules::Outcome;
 
 // The bytes that any line fits in.
-pub const ROOM: usize = 96;
+pub const LINE_BYTES: usize = 96;
 
 // An outcome's name, and a space behind it.
 pub fn outcome_name(outcome: Outcome) -> [u8; 3]

@@ -2,7 +2,15 @@
 // its line to standard output. All that matters is in the crates below; this moves bytes. No contract
 // can say what is read or written, so what a read answered goes through a function that promises where
 // the bytes end.
+use access::ACCESS_WORDS;
+use access::AccessMemory;
+use board::BOARD_BYTES;
+use board::BoardMemory;
 use io::write_all;
+use record::RECORD_WORDS;
+use record::RecordMemory;
+use recording_fields::STATUS_WORDS;
+use recording_fields::StatusWords;
 use recording_playback::Stand;
 use recording_playback::play_held;
 use recording_texts::cut_line;
@@ -22,10 +30,10 @@ fn read_behind(input: &mut [u8], held: usize) -> usize
 // Reads once, behind the bytes left over, and plays what is there. At the end of the input a field
 // that was cut off is reported.
 fn turn(
-    board: &mut [u8; 576],
-    access: &mut [u16; 129],
-    records: &mut [u32; 288],
-    words: &mut [u32; 255],
+    board: &mut BoardMemory,
+    access: &mut AccessMemory,
+    records: &mut RecordMemory,
+    words: &mut StatusWords,
     stand: Stand,
     input: &mut [u8; 65536],
     output: &mut [u8; 65536],
@@ -52,10 +60,10 @@ fn turn(
 
 // Document 01's board stands until a board description is taken.
 fn main() {
-    let mut board = [0u8; 576];
-    let mut access = [0u16; 129];
-    let mut records = [0u32; 288];
-    let mut words = [0u32; 255];
+    let mut board = [0u8; BOARD_BYTES];
+    let mut access = [0u16; ACCESS_WORDS];
+    let mut records = [0u32; RECORD_WORDS];
+    let mut words = [0u32; STATUS_WORDS];
     let mut input = io::large_buffer();
     let mut output = io::large_buffer();
     board_setup::start(&mut board);

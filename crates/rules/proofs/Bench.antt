@@ -1,5 +1,5 @@
 -- The starred cases hold, those of the shared control word, of board descriptions, of roles, of waits, of blocks and of tallies: each of
--- the nine tables is checked by computing it. Assumes nothing.
+-- the nine tables is checked by computing it.
 use mathlib.Core.Path.{_≡_, refl}
 use mathlib.Core.Bool.{Bool, true}
 use mathlib.Core.List.{List, map}

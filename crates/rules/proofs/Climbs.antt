@@ -1,4 +1,4 @@
--- Following a function step by step and coming back, for any function; and the pigeonhole law, which bounds the way. Assumes nothing.
+-- Following a function step by step and coming back, for any function; and the pigeonhole law, which bounds the way.
 use Prim.Native.Nat.{ℕ, zero, suc, _+_, _*_, _<_, _≤_}
 use mathlib.Core.Path.{_≡_, refl, sym, subst, _∙_, ap}
 use mathlib.Core.Bool.{Bool, true, false, cond, not, _||_}

@@ -1,5 +1,5 @@
 -- Board descriptions: document 01's board is one, computed; an accepted one lists no more processors than there are rows, so each that it lists is
--- on the board. Assumes nothing.
+-- on the board.
 use Prim.Native.Nat.{ℕ, _≤_, _<_}
 use mathlib.Core.Path.{_≡_, refl, subst⁻¹, ap, _∙_}
 use mathlib.Core.Bool.{Bool, true, false, cond, not, _&&_, _||_, or-false}

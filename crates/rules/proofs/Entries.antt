@@ -1,5 +1,5 @@
 -- What an accepted list leaves: each used entry is on the board and has a master, so a processor that a used entry names has an entry
--- in force. For any board. Assumes nothing.
+-- in force. For any board.
 use Prim.Native.Nat.{ℕ, _<_}
 use mathlib.Core.Path.{_≡_, refl, subst, subst⁻¹, _∙_, ap}
 use mathlib.Core.Bool.{Bool, true, false, not, _&&_}

@@ -1,4 +1,4 @@
--- The flag rules, once for every class and word: what an accepted pair of set and clear words leaves. Assumes nothing.
+-- The flag rules, once for every class and word: what an accepted pair of set and clear words leaves.
 use Prim.Native.Nat.{ℕ, zero, suc, _*_, _-_, _/_, _%_, _^_, _<_, min, max}
 use mathlib.Core.Path.{_≡_, refl, sym, _∙_, ap, ap₂}
 use mathlib.Core.Bool.{true, _&&_}

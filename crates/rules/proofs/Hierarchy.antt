@@ -1,6 +1,6 @@
 -- What B8 means (document 02, L1), for any entries: where no host is reported, following supervisors ends from every host; where one is, it lies on a
 -- loop and is the first in entry order; and where a host lies on a loop, one is reported. A way with more steps than entries comes to a host
--- twice. Assumes nothing.
+-- twice.
 use Prim.Native.Nat.{ℕ, suc, _+_, _*_, _-_, _<_, _≤_}
 use mathlib.Core.Path.{_≡_, refl, sym, subst, subst⁻¹, _∙_, ap}
 use mathlib.Core.Bool.{Bool, true, false, not}

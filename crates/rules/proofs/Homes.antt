@@ -1,5 +1,5 @@
 -- Homes of control words (document 02, L4): a home is one of the rows, and its own home; the processors of a board share a control word exactly
--- where they are of one ARMv8 cluster, and then have one class. For any description. Assumes nothing.
+-- where they are of one ARMv8 cluster, and then have one class. For any description.
 use Prim.Native.Nat.{ℕ, zero, suc, _%_, _≤_, _<_}
 use mathlib.Core.Path.{_≡_, refl, sym, subst⁻¹, _∙_, ap}
 use mathlib.Core.Bool.{Bool, true, false, not, _&&_}

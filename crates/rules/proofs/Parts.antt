@@ -1,4 +1,4 @@
--- The entries of a substructure as parts of its bytes: their number, their bytes, and the first of those that are left. Assumes nothing.
+-- The entries of a substructure as parts of its bytes: their number, their bytes, and the first of those that are left.
 use Prim.Native.Nat.{ℕ, zero, suc, _+_, _*_, _-_, _<_}
 use mathlib.Core.Path.{_≡_, refl, sym, _∙_, ap}
 use mathlib.Core.List.{List, _∷_}

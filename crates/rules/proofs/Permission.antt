@@ -1,5 +1,5 @@
 -- What document 01 asks for comes out the same over the role (document 02, L5): who is permitted, who is the recovery master, and who may
--- request; and the role by cases, in the order in which the code tests them. Assumes nothing.
+-- request; and the role by cases, in the order in which the code tests them.
 use Prim.Native.Nat.{ℕ}
 use mathlib.Core.Path.{_≡_, refl, sym, _∙_}
 use mathlib.Core.Bool.{Bool, true, false, cond, not, _&&_, _||_, and-false}

@@ -1,5 +1,5 @@
 -- What OK means: every row of the table is clear; so a sender whose message is carried out has a right that the entry names, and leaves
--- the processor free or with a permitted host. A refusal changes no record. Assumes nothing.
+-- the processor free or with a permitted host. A refusal changes no record.
 use Prim.Native.Nat.{ℕ, _≤_}
 use mathlib.Core.Path.{_≡_, refl, subst}
 use mathlib.Core.Bool.{Bool, true, false, not, _&&_, _||_}

@@ -1,5 +1,5 @@
 -- Rows: two processors of which one is on the board share a row only if they are one; a table that passes its test gives every row, and
--- the table that is filled from a description passes it. For any description. Assumes nothing.
+-- the table that is filled from a description passes it. For any description.
 use Prim.Native.Nat.{ℕ, suc, pred, _<_, _≤_}
 use mathlib.Core.Path.{_≡_, refl, sym, _∙_, subst, subst⁻¹, ap}
 use mathlib.Core.Bool.{Bool, true, false}

@@ -1,5 +1,5 @@
 -- Every state that calls left is sound: the fresh one is, and every call keeps it, whatever the call. On the way: what one call leaves
--- in the state, an offer once something was accepted, a message that is refused, and a store for one processor. Assumes nothing.
+-- in the state, an offer once something was accepted, a message that is refused, and a store for one processor.
 use Prim.Native.Nat.{ℕ, zero, suc, _≤_}
 use mathlib.Core.Path.{_≡_, refl, sym, subst, subst⁻¹, _∙_, ap, ap₂}
 use mathlib.Core.Bool.{Bool, true, false}

@@ -1,4 +1,4 @@
--- Laws of tables that a function fills: what stands at each place, and what a store leaves. For any type. Assumes nothing.
+-- Laws of tables that a function fills: what stands at each place, and what a store leaves. For any type.
 use Prim.Native.Nat.{ℕ, zero, suc, _+_, _≤_, _<_}
 use mathlib.Core.Path.{_≡_, refl, sym, _∙_, ap}
 use mathlib.Core.Bool.{true}

@@ -1,5 +1,5 @@
 -- The tallies of one record (document 02, L10): what a message leaves in each, that each change of the controller counts for one tally, and
--- nothing else counts, and that grants and releases tell below the cap whether the processor is held. Assumes nothing.
+-- nothing else counts, and that grants and releases tell below the cap whether the processor is held.
 use Prim.Native.Nat.{ℕ, _+_, _≤_, _<_, min}
 use mathlib.Core.Path.{_≡_, refl, sym, subst, subst⁻¹, ap}
 use mathlib.Core.Bool.{true, false, cond, _&&_}

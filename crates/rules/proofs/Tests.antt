@@ -1,4 +1,4 @@
--- Laws of tests, of tables and of searches, for any type. Assumes nothing.
+-- Laws of tests, of tables and of searches, for any type.
 use Prim.Native.Nat.{ℕ, zero, suc, pred, _+_, _<_}
 use native.Mathlib.Nat.{add-zero, zero-add, add-suc, suc-add, le-of-suc-le-suc, not-suc-le-zero}
 use native.Mathlib.Omega.{arith}

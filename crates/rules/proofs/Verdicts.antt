@@ -1,4 +1,4 @@
--- Verdicts as the code matches on them: one that is not `Accepted` is a refusal, and its number in the enum is none of `Accepted`'s. Assumes nothing.
+-- Verdicts as the code matches on them: one that is not `Accepted` is a refusal, and its number in the enum is none of `Accepted`'s.
 use Prim.Native.Nat.{ℕ, suc}
 use mathlib.Core.Path.{_≡_, refl}
 use mathlib.Core.Bool.{false}

@@ -1,5 +1,5 @@
 -- Document 02, L9, and what makes it right: with `matches` above `waits` no words whatever end the wait OK, and with equal numbers some do,
--- wherever a word can match the masks. Assumes nothing.
+-- wherever a word can match the masks.
 use Prim.Native.Nat.{ℕ, zero, suc, _+_, _≤_, _<_, min}
 use mathlib.Core.Path.{_≡_, refl, sym, subst, subst⁻¹, ap, _∙_}
 use mathlib.Core.Bool.{Bool, true, false, cond, not, _&&_, _||_, and-false}

@@ -1,5 +1,5 @@
 -- After any calls each tally is what the count of the messages says that were carried out, and grants and releases tell whether the processor is
--- held (document 02, L10). Assumes nothing.
+-- held (document 02, L10).
 use Prim.Native.Nat.{ℕ, _+_, _≤_, min}
 use mathlib.Core.Path.{_≡_, sym, subst, subst⁻¹, ap, _∙_}
 use mathlib.Core.Bool.{Bool, true, false, cond}

@@ -1,5 +1,5 @@
 -- "Access list": 292 bytes, 32 entries of nine bytes each; why a list is refused, in order; the entries that an accepted list leaves; who
--- is permitted. Hosts here are 16-bit numbers and stay so. Assumes nothing.
+-- is permitted. Hosts here are 16-bit numbers and stay so.
 use Prim.Native.Nat.{ℕ}
 use mathlib.Core.Bool.{Bool, cond, not, _&&_, _||_}
 use mathlib.Core.List.{List, [], _∷_}

@@ -1,5 +1,5 @@
 -- "Messages", its paragraph on the answer, and the last column of "Outcomes": the answer's bytes, what a call reports, and what the answer
--- buffer holds afterwards. Assumes nothing.
+-- buffer holds afterwards.
 use Prim.Native.Nat.{ℕ}
 use mathlib.Core.Bool.{Bool, cond, _&&_, _||_}
 use lib.Dec.{eqb}

@@ -1,5 +1,5 @@
 -- "The pack on the bench": the starred cases, as one table. Each row has the calls made before, from a fresh manager; the call; and what
--- it gives. `proofs/Bench.antt` checks the table. Assumes nothing.
+-- it gives. `proofs/Bench.antt` checks the table.
 use Prim.Native.Nat.{ℕ}
 use mathlib.Core.List.{List, [], _∷_, _++_}
 use lib.ListN.{replicate}

@@ -1,5 +1,5 @@
 -- Document 02, L1: the whole security board configuration (source document 004), 431 bytes: two ABI bytes, the access list, the host hierarchy and
--- the OTP part. Why a block is refused, in order, and the host that a refusal reports. Assumes nothing.
+-- the OTP part. Why a block is refused, in order, and the host that a refusal reports.
 use Prim.Native.Nat.{ℕ}
 use mathlib.Core.Bool.{Bool, not, _&&_}
 use mathlib.Core.List.{List, [], _∷_, _++_}

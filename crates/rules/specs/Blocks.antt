@@ -1,5 +1,5 @@
 -- Worked cases of document 02's L1: blocks with each fault alone and with two, where the earlier one is told; what is accepted before and after; and the
--- hosts that loops report. `proofs/Bench.antt` checks the tables. Assumes nothing.
+-- hosts that loops report. `proofs/Bench.antt` checks the tables.
 use Prim.Native.Nat.{ℕ, _-_}
 use mathlib.Core.List.{List, [], _∷_, _++_}
 use lib.ListN.{length, set, take, replicate}

@@ -1,6 +1,5 @@
 -- "Our board", as the board in force: tables of its hosts, of its processors' rows, and by row of their classes and of the homes of their
 -- control words; the flag bits that may be named. Document 02, L8, fills them from a description (Description.antt). Any tables are a board.
--- Assumes nothing.
 use Prim.Native.Nat.{ℕ, _%_}
 use mathlib.Core.Bool.{Bool, not, _&&_, _||_}
 use mathlib.Core.List.{List, [], _∷_}

@@ -1,5 +1,5 @@
 -- Document 02, L8, on the bench: worked cases of board descriptions, as one table in the form of `starred`: what each gets, and what is answered on
--- the board that it leaves. `proofs/Bench.antt` checks it. Assumes nothing.
+-- the board that it leaves. `proofs/Bench.antt` checks it.
 use Prim.Native.Nat.{ℕ, zero, suc}
 use mathlib.Core.List.{List, [], _∷_, _++_}
 use lib.ListN.{replicate}

@@ -1,5 +1,5 @@
 -- Little-endian fields, packed, as the list and the messages have them. A byte past the end reads as 0, so that every definition is
--- total; no rule looks there. Assumes nothing.
+-- total; no rule looks there.
 use Prim.Native.Nat.{ℕ, _+_, _*_, _/_, _%_, _^_}
 use mathlib.Core.Bool.{Bool}
 use mathlib.Core.List.{List, [], _∷_}

@@ -1,5 +1,5 @@
 -- The calls: an offer, which is a board description (document 02, L8), a list ("Access list") or a block (document 02, L1), and a message
--- ("Messages"); what each is told, and the state that it leaves. Assumes nothing.
+-- ("Messages"); what each is told, and the state that it leaves.
 use Prim.Native.Nat.{ℕ}
 use mathlib.Core.Bool.{cond}
 use mathlib.Core.List.{List}

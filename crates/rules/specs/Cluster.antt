@@ -1,5 +1,5 @@
 -- Document 02, L4, on the bench: worked cases of the control word that processors 32 and 33 share, as one table in the form of `starred`.
--- `proofs/Bench.antt` checks it. Assumes nothing.
+-- `proofs/Bench.antt` checks it.
 use Prim.Native.Nat.{ℕ}
 use mathlib.Core.List.{List, [], _∷_, _++_}
 use lib.ListN.{replicate}

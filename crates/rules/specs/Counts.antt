@@ -1,4 +1,4 @@
--- Document 02, L10, on the bench: worked cases of the tallies, as two tables. `proofs/Bench.antt` checks them. Assumes nothing.
+-- Document 02, L10, on the bench: worked cases of the tallies, as two tables. `proofs/Bench.antt` checks them.
 use Prim.Native.Nat.{ℕ}
 use mathlib.Core.List.{List, [], _∷_, _++_}
 use lib.ListN.{replicate}

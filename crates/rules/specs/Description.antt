@@ -1,5 +1,5 @@
 -- Document 02, L8, "Larger boards": a board description; why one is refused, in order; the board that an accepted one leaves; and document 01's
--- board, "Our board", which is one description. Assumes nothing.
+-- board, "Our board", which is one description.
 use Prim.Native.Nat.{ℕ, zero, suc, _+_, _≤_}
 use mathlib.Core.Path.{_≡_}
 use mathlib.Core.Bool.{Bool, true, false, cond, not, _&&_, _||_}

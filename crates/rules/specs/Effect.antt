@@ -1,4 +1,4 @@
--- "Effect of OK": what each type leaves in the record of the processor it names; all other outcomes change no record. Assumes nothing.
+-- "Effect of OK": what each type leaves in the record of the processor it names; all other outcomes change no record.
 use Prim.Native.Nat.{ℕ}
 use mathlib.Core.Bool.{cond}
 use mathlib.Core.List.{List}

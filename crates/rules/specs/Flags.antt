@@ -1,5 +1,5 @@
 -- "Operands (N8)" and "Effect of OK", what they say of set words and clear words: the operand rules of the two set messages and what
--- they store, once for every class and word. Assumes nothing.
+-- they store, once for every class and word.
 use Prim.Native.Nat.{ℕ, _-_, _%_}
 use mathlib.Core.Bool.{Bool, not, cond, _&&_, _||_}
 use lib.Bits.{bitAnd, bitOr}

@@ -1,5 +1,5 @@
 -- Document 02, L1: the host hierarchy of the security board configuration (source document 004), 68 bytes: magic 0x8D27, size 68, and 32 pairs of
--- host and supervisor. Why it is refused, in order; following supervisors, and the loop that this may come to. Assumes nothing.
+-- host and supervisor. Why it is refused, in order; following supervisors, and the loop that this may come to.
 use Prim.Native.Nat.{ℕ, zero, suc, _≤_}
 use mathlib.Core.Path.{_≡_}
 use mathlib.Core.Bool.{Bool, true, false, cond, not, _&&_, _||_}

@@ -1,5 +1,5 @@
 -- "Messages": the header, the eight types with their sizes and fields, what a call gets with a message, and which processor a message is
--- about. Assumes nothing.
+-- about.
 use Prim.Native.Nat.{ℕ}
 use mathlib.Core.Bool.{Bool, not, _&&_, _||_}
 use mathlib.Core.List.{List, [], _∷_, map}

@@ -1,5 +1,5 @@
 -- "Outcomes, in the order they are tested", with "Right (N7)" and "Operands (N8)". What a call can see of the state is a `View` and what
--- it is asked a `Query`, so that their types show on what an outcome depends. Assumes nothing.
+-- it is asked a `Query`, so that their types show on what an outcome depends.
 use Prim.Native.Nat.{ℕ}
 use mathlib.Core.Bool.{Bool, true, false, not, _&&_, _||_}
 use mathlib.Core.List.{List, [], _∷_, _++_}

@@ -1,5 +1,5 @@
 -- Document 02, L5: permission says who. The role of a host for a processor, and over it what document 01 asks for: who is permitted, and who
--- is the recovery master. `proofs/Permission.antt` shows that both come out as document 01's words have them. Assumes nothing.
+-- is the recovery master. `proofs/Permission.antt` shows that both come out as document 01's words have them.
 use Prim.Native.Nat.{ℕ}
 use mathlib.Core.Bool.{Bool, true, false, cond, not, _&&_}
 use mathlib.Core.List.{List, [], _∷_}

@@ -1,5 +1,5 @@
 -- Document 02, L5, on the bench: worked cases of the role that a call reports, as one table. Each row has the calls made before, from a fresh
--- manager; the call; and the outcome and the role that it reports. `proofs/Bench.antt` checks the table. Assumes nothing.
+-- manager; the call; and the outcome and the role that it reports. `proofs/Bench.antt` checks the table.
 use Prim.Native.Nat.{ℕ}
 use mathlib.Core.List.{List, [], _∷_, _++_}
 use lib.ListN.{replicate}

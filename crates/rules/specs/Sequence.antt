@@ -1,4 +1,4 @@
--- Sequences of calls ("What demand 3 speaks of"): the state that they leave, and what holds of every such state. Assumes nothing.
+-- Sequences of calls ("What demand 3 speaks of"): the state that they leave, and what holds of every such state.
 use Prim.Native.Nat.{ℕ, _≤_}
 use mathlib.Core.Path.{_≡_}
 use mathlib.Core.Bool.{Bool, true, false, _||_}

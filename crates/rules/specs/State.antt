@@ -1,6 +1,5 @@
 -- The state: the board in force (document 02, L8), what was accepted and what stands since then ("Access list"; document 02, L1), and each processor's record
--- ("Our board"), of which the control word may be a cluster's (document 02, L4), with its tallies (L10). A message call sees a `View` of it. Assumes
--- nothing.
+-- ("Our board"), of which the control word may be a cluster's (document 02, L4), with its tallies (L10). A message call sees a `View` of it.
 use Prim.Native.Nat.{ℕ}
 use mathlib.Core.Bool.{Bool, true, false}
 use mathlib.Core.List.{List, []}

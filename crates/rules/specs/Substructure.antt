@@ -1,6 +1,6 @@
 -- A substructure of the security board configuration (source document 001, its header; 004): a magic number, its size in bytes, and then entries
 -- of one width. An entry's first byte names the processor or the host that the entry is of, and 0 marks it unused. The access list is one, and the
--- host hierarchy; of the OTP part the header alone is read. Assumes nothing.
+-- host hierarchy; of the OTP part the header alone is read.
 use Prim.Native.Nat.{ℕ, zero, suc, _+_, _*_}
 use mathlib.Core.Bool.{Bool, not, _&&_}
 use mathlib.Core.List.{List, [], _∷_, _++_}

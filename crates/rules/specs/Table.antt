@@ -1,5 +1,5 @@
 -- A table of a paper, read from top to bottom: the first line whose test holds decides. Document 01's outcomes and its reasons to
--- refuse a list are such tables. Assumes nothing.
+-- refuse a list are such tables.
 use Prim.Native.Nat.{ℕ, zero, suc}
 use mathlib.Core.Bool.{Bool, true, false, cond, _&&_, _||_}
 use mathlib.Core.List.{List, [], _∷_}

@@ -1,5 +1,4 @@
--- Document 02, L10: a processor's four tallies, which messages that are carried out count for each, and the cap where each stays. Assumes
--- nothing.
+-- Document 02, L10: a processor's four tallies, which messages that are carried out count for each, and the cap where each stays.
 use Prim.Native.Nat.{ℕ, _+_}
 use mathlib.Core.Bool.{Bool, cond, not, _&&_, _||_}
 use lib.Dec.{eqb, ltb}

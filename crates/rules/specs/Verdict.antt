@@ -1,4 +1,4 @@
--- The number of a verdict, for document 01's list and document 02's offers. Assumes nothing.
+-- The number of a verdict, for document 01's list and document 02's offers.
 use Prim.Native.Nat.{ℕ}
 use mathlib.Core.Bool.{Bool}
 use lib.Dec.{eqb}

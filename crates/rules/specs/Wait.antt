@@ -1,5 +1,4 @@
 -- "Wait": when a status word matches, the first check that ends a run of `matches` matching words in a row, and what a wait reports.
--- Assumes nothing.
 use Prim.Native.Nat.{ℕ, zero, suc, _+_, _*_, min}
 use mathlib.Core.Bool.{Bool, cond, not, _&&_, _||_}
 use mathlib.Core.List.{List}

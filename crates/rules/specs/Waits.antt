@@ -1,5 +1,5 @@
 -- Document 02, L9, on the bench: worked cases of a wait's `waits` and `matches`, as one table in the form of `starred`.
--- `proofs/Bench.antt` checks it. Assumes nothing.
+-- `proofs/Bench.antt` checks it.
 use Prim.Native.Nat.{ℕ}
 use mathlib.Core.List.{List, [], _∷_, _++_}
 use lib.ListN.{replicate}

@@ -1,5 +1,5 @@
 -- Document 02, L10, over sequences of calls: the count worked out from the messages that are carried out, and what it claims of the tallies. The
--- theorems are in proofs/Warranty.antt. Assumes nothing.
+-- theorems are in proofs/Warranty.antt.
 use Prim.Native.Nat.{ℕ, _+_, _≤_, _<_, min}
 use mathlib.Core.Path.{_≡_}
 use mathlib.Core.Bool.{Bool, true, false, cond, _&&_}

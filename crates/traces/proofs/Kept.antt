@@ -1,5 +1,5 @@
 -- The bytes of the accepted list or block, which the memories do not keep, play no part: the rules give the same answers without them, and
--- leave the same of a state. Assumes nothing.
+-- leave the same of a state.
 use Prim.Native.Nat.{ℕ}
 use mathlib.Core.Path.{_≡_, refl, sym, ap, _∙_}
 use mathlib.Core.Bool.{Bool, true}

@@ -1,5 +1,5 @@
 -- The theorem about the code holds of a block: the block call takes the bench list in a block over memories of zeros, and leaves the memories that the
--- lone list would. Assumes nothing.
+-- lone list would.
 use mathlib.Core.Path.{_≡_, refl, subst⁻¹}
 use mathlib.Core.List.{[]}
 use lib.ListN.{replicate}

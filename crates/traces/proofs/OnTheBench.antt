@@ -1,5 +1,5 @@
 -- The theorem is not empty: the bench list is accepted over memories of zeros, a request of host 3 follows, and both steps meet their
--- contracts; the theorem applies to it, and to a list that names a cluster, and so does that of the tallies. Assumes nothing.
+-- contracts; the theorem applies to it, and to a list that names a cluster, and so does that of the tallies.
 use Prim.Native.Nat.{ℕ}
 use mathlib.Core.Path.{_≡_, refl, subst⁻¹}
 use mathlib.Core.List.{List, [], _∷_, _++_}

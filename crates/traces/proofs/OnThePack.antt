@@ -1,5 +1,5 @@
 -- The theorem about the code is not empty on a described board: the board call takes a description over a fresh manager's memories, its board
--- accepts a list, and the theorem applies. Assumes nothing.
+-- accepts a list, and the theorem applies.
 use Prim.Native.Nat.{ℕ}
 use mathlib.Core.Path.{_≡_, refl, subst⁻¹}
 use mathlib.Core.Bool.{false}

@@ -1,4 +1,4 @@
--- What a trace leaves and gives is what the rules leave and give for its calls. Assumes nothing.
+-- What a trace leaves and gives is what the rules leave and give for its calls.
 use Prim.Native.Nat.{ℕ}
 use mathlib.Core.Path.{_≡_, refl, ap, ap₂, _∙_}
 use mathlib.Core.Bool.{cond}

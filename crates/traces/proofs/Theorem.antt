@@ -1,5 +1,5 @@
 -- Demand 3 of the code: traces of calls that meet the contracts of crates offering and manager have it, since their memories hold the states
--- of the rules, of which crate noninterference shows it. Assumes nothing.
+-- of the rules, of which crate noninterference shows it.
 use Prim.Native.Nat.{ℕ}
 use mathlib.Core.Path.{_≡_, refl, sym, subst, subst⁻¹, ap, _∙_}
 use mathlib.Core.Bool.{true, false}

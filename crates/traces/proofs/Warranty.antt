@@ -1,5 +1,5 @@
 -- The tallies in the record memory, after any trace of calls that meet the contracts (document 02, L10): the memory holds the state of the rules, of
--- which crate rules shows it. Assumes nothing.
+-- which crate rules shows it.
 use Prim.Native.Nat.{ℕ, _+_, _*_, _≤_}
 use mathlib.Core.Path.{_≡_, refl, sym, subst⁻¹, ap, _∙_}
 use mathlib.Core.Bool.{Bool, true, false}

@@ -1,5 +1,5 @@
 -- Demand 3, said of the code: `CodeNoninterference`, over traces of the calls. Its theorem is in proofs/Theorem.antt, and cites that of
--- crate noninterference, where the words of "What demand 3 speaks of" are defined. Assumes nothing.
+-- crate noninterference, where the words of "What demand 3 speaks of" are defined.
 use Prim.Native.Nat.{ℕ}
 use mathlib.Core.Path.{_≡_}
 use mathlib.Core.Bool.{true, false, cond}

@@ -1,5 +1,5 @@
 -- Traces of the code: calls one after the other, over the three memories that the caller lends, where every call meets the contract of
--- crate offering or manager and nobody else writes to the memories. Whatever code meets the contracts has these traces. Assumes nothing.
+-- crate offering or manager and nobody else writes to the memories. Whatever code meets the contracts has these traces.
 use Prim.Native.Nat.{ℕ}
 use mathlib.Core.Path.{_≡_}
 use mathlib.Core.List.{List, [], _∷_, _++_}

@@ -1,5 +1,5 @@
 -- Document 02, L10, said of the code: what stands in the record memory after any trace of the calls. Its theorems are in proofs/Warranty.antt, and
--- cite those of crate rules, where the count is defined. Assumes nothing.
+-- cite those of crate rules, where the count is defined.
 use Prim.Native.Nat.{ℕ, _+_, _≤_, min}
 use mathlib.Core.Path.{_≡_}
 use mathlib.Core.Bool.{true}

@@ -1,4 +1,4 @@
--- One more check of a wait, over plain numbers: how the run goes on, and what the search for its end comes to. Assumes nothing.
+-- One more check of a wait, over plain numbers: how the run goes on, and what the search for its end comes to.
 use Prim.Native.Nat.{ℕ, zero, suc, _+_, _≤_, _<_, _-_, min}
 use mathlib.Core.Path.{_≡_, _∙_, subst}
 use mathlib.Core.Bool.{Bool, cond}

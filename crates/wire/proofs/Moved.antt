@@ -1,4 +1,4 @@
--- Bytes moved down, one by one. Assumes nothing.
+-- Bytes moved down, one by one.
 use Prim.Native.Nat.{ℕ, suc, _+_, _<_}
 use mathlib.Core.Path.{_≡_, sym, ap, ap₂, _∙_}
 use mathlib.Core.List.{List, [], _∷_, _++_}

@@ -1,4 +1,5 @@
-// TODO head
+// Bytes in and out: little-endian numbers read at any place of lent bytes, and bytes put into a lent
+// buffer. The rules are rules/specs/Bytes.antt and rules/specs/Answer.antt.
 mod read;
 mod write;
 

@@ -1,6 +1,4 @@
-// Little-endian fields out of bytes, as the access list, the messages and the recordings have them: a
-// byte, a 16-bit and a 32-bit number. The rules are rules/specs/Bytes.antt; each function gives what
-// the definition that its contract names gives, for any bytes, and past their end there are zeros.
+// Little-endian numbers out of bytes, of 8, 16 and 32 bits, at any place; past the end there are zeros.
 ghost use mathlib.Core.Path.{_≡_};
 ghost use Prim.Native.Nat.{_+_, _*_, _<_};
 ghost use Rattle.rules.specs.Bytes.{byteAt, u16At, u32At};
@@ -30,26 +28,29 @@ pub fn byte_at(bytes: &[u8], i: usize) -> u8
 }
 
 // The 16-bit number at place `at`.
-pub fn u16_at(bytes: &[u8], at: u8) -> u16
+pub fn u16_at(bytes: &[u8], at: usize) -> u16
     ensures { λ r. ⌜ r ≡ u16At (now (bytes .entry)) at ⌝ }
 {
-    let i = at as usize;
-    let low = byte_at(bytes, i) as u16;
-    let high = byte_at(bytes, i + 1) as u16;
+    if bytes.len() <= at {
+        return 0;
+    }
+    let low = byte_at(bytes, at) as u16;
+    let high = byte_at(bytes, at + 1) as u16;
     low + 256 * high
 }
 
 // The 32-bit number at place `at`. One test finds all four bytes there, as in every message that is
 // long enough for its type.
-pub fn u32_at(bytes: &[u8], at: u8) -> u32
+pub fn u32_at(bytes: &[u8], at: usize) -> u32
     ensures { λ r. ⌜ r ≡ u32At (now (bytes .entry)) at ⌝ }
 {
-    let i = at as usize;
-    if i + 3 < bytes.len() {
-        return joined(bytes[i], bytes[i + 1], bytes[i + 2], bytes[i + 3]);
+    if bytes.len() <= at {
+        return 0;
     }
-    let a = byte_at(bytes, i);
-    let b = byte_at(bytes, i + 1);
-    let c = byte_at(bytes, i + 2);
-    joined(a, b, c, byte_at(bytes, i + 3))
+    if 3 < bytes.len() - at {
+        return joined(bytes[at], bytes[at + 1], bytes[at + 2], bytes[at + 3]);
+    }
+    let b = byte_at(bytes, at + 1);
+    let c = byte_at(bytes, at + 2);
+    joined(bytes[at], b, c, 0)
 }

@@ -1,4 +1,4 @@
--- `access::role_of` meets its contract: a law for each of its tests. Assumes nothing.
+-- `access::role_of` meets its contract: a law for each of its tests.
 use mathlib.Core.Path.{_≡_, sym, _∙_}
 use denote.Ref.{now}
 use Rattle.rules.specs.AccessList.{Entry}
@@ -38,35 +38,17 @@ not-second w is = w .before .if5 .left (w .before .before .word-at3 .ensures ∙
 returns : tie.Need-returns
 returns c = sym (role-zero _ _ _ (c .if1 .taken))
 
-mul-at : tie.Need-mul-at
-mul-at c = search needs
-
-add-at : tie.Need-add-at
-add-at c = search needs
-
-word-at-requires : tie.Need-word-at-requires
-word-at-requires c κs = search needs
-
 returns-2 : tie.Need-returns-2
 unfolding entryAt
 returns-2 c =
     let a = c .before .before .before .before .args in
     sym (role-master _ (entryAt (now (a .access)) (a .row)) (a .host) (c .before .before .if1 .left) (sym (c .before .word-at .ensures) ∙ c .if2 .taken))
 
-open-role-requires : tie.Need-open-role-requires
-open-role-requires c κs = search needs
-
 returns-3 : tie.Need-returns-3
 unfolding entryAt
 returns-3 c =
     let a = c .before .before .before .before .before .before .args in
     c .open-role .ensures ∙ sym (role-open _ (entryAt (now (a .access)) (a .row)) (a .host) (sym (c .before .before .before .word-at .ensures) ∙ c .before .if3 .taken))
-
-add-word-at : tie.Need-add-word-at
-add-word-at c = search needs
-
-word-at-requires-2 : tie.Need-word-at-requires-2
-word-at-requires-2 c κs = search needs
 
 returns-4 : tie.Need-returns-4
 unfolding entryAt
@@ -76,12 +58,6 @@ returns-4 c =
     (role-first _ (entry w) _ (w .before .before .before .before .if1 .left) (has-entry w) (other-master w)
     (sym (w .word-at2 .ensures) ∙ c .if4 .taken))
 
-add-word-at-2 : tie.Need-add-word-at-2
-add-word-at-2 c = search needs
-
-word-at-requires-3 : tie.Need-word-at-requires-3
-word-at-requires-3 c κs = search needs
-
 returns-5 : tie.Need-returns-5
 unfolding entryAt
 returns-5 c =
@@ -89,12 +65,6 @@ returns-5 c =
     sym
     (role-second _ (entry w) _ (w .before .before .before .before .if1 .left) (has-entry w) (other-master w) (not-first (c .before))
     (sym (c .before .word-at3 .ensures) ∙ c .if5 .taken))
-
-add-word-at-3 : tie.Need-add-word-at-3
-add-word-at-3 c = search needs
-
-word-at-requires-4 : tie.Need-word-at-requires-4
-word-at-requires-4 c κs = search needs
 
 returns-6 : tie.Need-returns-6
 unfolding entryAt
@@ -119,19 +89,19 @@ role-of-spec =
     tie.close
     (tie.spec
     returns
-    mul-at
-    add-at
-    word-at-requires
+    (λ c. search needs)
+    (λ c. search needs)
+    (λ c κs. search needs)
     returns-2
-    open-role-requires
+    (λ c κs. search needs)
     returns-3
-    add-word-at
-    word-at-requires-2
+    (λ c. search needs)
+    (λ c κs. search needs)
     returns-4
-    add-word-at-2
-    word-at-requires-3
+    (λ c. search needs)
+    (λ c κs. search needs)
     returns-5
-    add-word-at-3
-    word-at-requires-4
+    (λ c. search needs)
+    (λ c κs. search needs)
     returns-6
     returns-7)

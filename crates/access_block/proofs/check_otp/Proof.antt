@@ -1,4 +1,4 @@
--- `access_block::check_otp` meets its contract: each return is a line of the table, after those above it. Assumes nothing.
+-- `access_block::check_otp` meets its contract: each return is a line of the table, after those above it.
 use mathlib.Core.Path.{sym, _∙_}
 use borrow.Author.Tests.{eq-eqb, ne-eqb}
 use Rattle.rules.specs.Table.{firstOf}
@@ -7,15 +7,9 @@ use borrow.Author.Needs.{needs}
 use Rattle.access_block.proofs.check_otp.Statement.{statement}
 use Rattle.access_block.proofs.check_otp.Tie as tie
 
-u16-at-requires : tie.Need-u16-at-requires
-u16-at-requires c κs = search needs
-
 returns : tie.Need-returns
 unfolding otpTable firstOf
 returns c = rw (ne-eqb _ 0x4081 (λ e. c .if1 .taken (c .before .u16-at .ensures ∙ e)))
-
-u16-at-requires-2 : tie.Need-u16-at-requires-2
-u16-at-requires-2 c κs = search needs
 
 returns-2 : tie.Need-returns-2
 unfolding otpTable firstOf
@@ -34,4 +28,4 @@ returns-3 c =
     )
 
 pub check-otp-spec : {M : Type 1} → statement M
-check-otp-spec = tie.close (tie.spec u16-at-requires returns u16-at-requires-2 returns-2 returns-3)
+check-otp-spec = tie.close (tie.spec (λ c κs. search needs) returns (λ c κs. search needs) returns-2 returns-3)

@@ -1,4 +1,4 @@
--- `access_hierarchy::check_pair` meets its contract: each return is a line of the table, after those above it. Assumes nothing.
+-- `access_hierarchy::check_pair` meets its contract: each return is a line of the table, after those above it.
 use mathlib.Core.Path.{sym, _∙_}
 use Rattle.rules.specs.declared.Verdict.the-variants.{Accepted, B7}
 use Rattle.rules.proofs.Tests.{cond-true, cond-false}
@@ -7,42 +7,15 @@ use borrow.Author.Needs.{needs}
 use Rattle.access_hierarchy.proofs.check_pair.Statement.{statement}
 use Rattle.access_hierarchy.proofs.check_pair.Tie as tie
 
-mul-at : tie.Need-mul-at
-mul-at c = search needs
-
-add-at : tie.Need-add-at
-add-at c = search needs
-
-byte-at-requires : tie.Need-byte-at-requires
-byte-at-requires c κs = search needs
-
 returns : tie.Need-returns
 returns c =
     let given = c .before .before .before .args in
     sym (unused-pair _ (given .bytes .now) (given .e) (c .before .byte-at .ensures) (c .if1 .taken))
 
-cast-is-host : tie.Need-cast-is-host
-cast-is-host c = search needs
-
-is-host-requires : tie.Need-is-host-requires
-is-host-requires c κs = search needs
-
 returns-2 : tie.Need-returns-2
 returns-2 c =
     let given = c .before .before .before .before .before .args in
     sym (bad-host _ (given .bytes .now) (given .e) (c .before .before .before .byte-at .ensures) (c .before .before .if1 .left) (c .before .is-host .ensures) (c .if2 .taken))
-
-add-byte-at : tie.Need-add-byte-at
-add-byte-at c = search needs
-
-byte-at-requires-2 : tie.Need-byte-at-requires-2
-byte-at-requires-2 c κs = search needs
-
-cast-is-host-2 : tie.Need-cast-is-host-2
-cast-is-host-2 c = search needs
-
-is-host-requires-2 : tie.Need-is-host-requires-2
-is-host-requires-2 c κs = search needs
 
 returns-3 : tie.Need-returns-3
 returns-3 c =
@@ -52,9 +25,6 @@ returns-3 c =
     (bad-supervisor _ (given .bytes .now) (given .e) (read .byte-at .ensures) (c .before .before .before .before .before .if1 .left)
     (c .before .before .before .before .is-host .ensures) (c .before .before .before .if2 .left)
     (c .before .before .byte-at2 .ensures) (c .before .is-host2 .ensures) (c .if3 .taken))
-
-named-before-requires : tie.Need-named-before-requires
-named-before-requires c κs = search needs
 
 returns-4 : tie.Need-returns-4
 returns-4 c =
@@ -82,18 +52,18 @@ pub check-pair-spec : {M : Type 1} → statement M
 check-pair-spec =
     tie.close
     (tie.spec
-    mul-at
-    add-at
-    byte-at-requires
+    (λ c. search needs)
+    (λ c. search needs)
+    (λ c κs. search needs)
     returns
-    cast-is-host
-    is-host-requires
+    (λ c. search needs)
+    (λ c κs. search needs)
     returns-2
-    add-byte-at
-    byte-at-requires-2
-    cast-is-host-2
-    is-host-requires-2
+    (λ c. search needs)
+    (λ c κs. search needs)
+    (λ c. search needs)
+    (λ c κs. search needs)
     returns-3
-    named-before-requires
+    (λ c κs. search needs)
     returns-4
     returns-5)

@@ -1,5 +1,4 @@
--- `access_hierarchy::check_pairs` meets its contract. The loop's invariant: the entries passed have no fault, so those from e on decide. Assumes
--- nothing.
+-- `access_hierarchy::check_pairs` meets its contract. The loop's invariant: the entries passed have no fault, so those from e on decide.
 use Prim.Native.Nat.{_≤_, _-_}
 use mathlib.Core.Path.{_≡_, refl, sym, _∙_}
 use mathlib.Core.List.{[]}
@@ -28,9 +27,6 @@ loop-holds : tie.Need-loop-holds Inv-loop μ-loop
 unfolding partsBefore verdictFrom
 loop-holds c = (omega arith, refl)
 
-check-pair-requires : tie.Need-check-pair-requires Inv-loop μ-loop
-check-pair-requires c κs = search needs
-
 enum-told : tie.Need-enum-told Inv-loop μ-loop
 enum-told c = c .match .keys1
 
@@ -39,12 +35,6 @@ returns c =
     let turn = c .before .before .before in
     let bytes = turn .before .before .args .bytes .now in
     sym (turn .loop .inv .1 ∙ turn-bad _ bytes (turn .loop .e) (omega arith) (c .before .check-pair .ensures) (λ good. no-fault (rw good at (c .match .keys2))))
-
-add-e : tie.Need-add-e Inv-loop μ-loop
-add-e c = search needs
-
-loop-less : tie.Need-loop-less Inv-loop μ-loop
-loop-less c = search needs
 
 loop-again : tie.Need-loop-again Inv-loop μ-loop
 loop-again c =
@@ -67,10 +57,10 @@ check-pairs-spec =
     Inv-loop
     μ-loop
     loop-holds
-    check-pair-requires
+    (λ c κs. search needs)
     enum-told
     returns
-    add-e
-    loop-less
+    (λ c. search needs)
+    (λ c. search needs)
     loop-again
     returns-2)

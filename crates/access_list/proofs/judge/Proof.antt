@@ -1,5 +1,5 @@
 -- `access_list::judge` meets its contract. The entry loop's invariant: the entries passed have no fault, so those from e on decide. The
--- secondary loop's: those passed are good, so those from k on decide. Assumes nothing.
+-- secondary loop's: those passed are good, so those from k on decide.
 use Prim.Native.Nat.{_≤_, _-_}
 use mathlib.Core.Path.{_≡_, refl, sym, _∙_}
 use lib.ListN.{length}
@@ -40,9 +40,6 @@ returns-2 : tie.Need-returns-2 Inv-loop μ-loop Inv-entries μ-entries
 unfolding verdictOf listTable firstOf
 returns-2 c = rw (c .before .if1 .left, ne-eqb _ 292 (c .if2 .taken))
 
-u16-at-requires : tie.Need-u16-at-requires Inv-loop μ-loop Inv-entries μ-entries
-u16-at-requires c κs = search needs
-
 returns-3 : tie.Need-returns-3 Inv-loop μ-loop Inv-entries μ-entries
 unfolding verdictOf contentTable listTable firstOf
 returns-3 c =
@@ -51,9 +48,6 @@ returns-3 c =
       eq-eqb _ 292 (c .before .before .if2 .left),
       ne-eqb _ 0xF1EA (λ e. c .if3 .taken (c .before .u16-at .ensures ∙ e)),
     )
-
-u16-at-requires-2 : tie.Need-u16-at-requires-2 Inv-loop μ-loop Inv-entries μ-entries
-u16-at-requires-2 c κs = search needs
 
 returns-4 : tie.Need-returns-4 Inv-loop μ-loop Inv-entries μ-entries
 unfolding verdictOf contentTable listTable firstOf
@@ -78,39 +72,6 @@ entries-holds c =
       ),
     )
 
-mul-part : tie.Need-mul-part Inv-loop μ-loop Inv-entries μ-entries
-mul-part c = omega arith
-
-add-part : tie.Need-add-part Inv-loop μ-loop Inv-entries μ-entries
-add-part c = omega arith
-
-mul-part-2 : tie.Need-mul-part-2 Inv-loop μ-loop Inv-entries μ-entries
-mul-part-2 c = omega arith
-
-add-part-2 : tie.Need-add-part-2 Inv-loop μ-loop Inv-entries μ-entries
-add-part-2 c = omega arith
-
-add-part-3 : tie.Need-add-part-3 Inv-loop μ-loop Inv-entries μ-entries
-add-part-3 c = omega arith
-
-sub-part : tie.Need-sub-part Inv-loop μ-loop Inv-entries μ-entries
-sub-part c = omega arith
-
-part-part-start : tie.Need-part-part-start Inv-loop μ-loop Inv-entries μ-entries
-part-part-start c = omega arith
-
-part-part-end : tie.Need-part-part-end Inv-loop μ-loop Inv-entries μ-entries
-part-part-end c = omega arith
-
-byte-at-requires : tie.Need-byte-at-requires Inv-loop μ-loop Inv-entries μ-entries
-byte-at-requires c κs = search needs
-
-add-e : tie.Need-add-e Inv-loop μ-loop Inv-entries μ-entries
-add-e c = omega arith
-
-entries-less : tie.Need-entries-less Inv-loop μ-loop Inv-entries μ-entries
-entries-less c = omega arith
-
 entries-again : tie.Need-entries-again Inv-loop μ-loop Inv-entries μ-entries
 entries-again c =
     let turn = c .before .before .before .before in
@@ -121,38 +82,11 @@ entries-again c =
           ∙ turn-unused _ list e (omega arith) (part-cut 9 list e) (c .before .byte-at .ensures) (c .if6 .taken),
     )
 
-cast-named-before : tie.Need-cast-named-before Inv-loop μ-loop Inv-entries μ-entries
-cast-named-before c = search needs
-
-named-before-requires : tie.Need-named-before-requires Inv-loop μ-loop Inv-entries μ-entries
-named-before-requires c κs = search needs
-
-check-entry-requires : tie.Need-check-entry-requires Inv-loop μ-loop Inv-entries μ-entries
-check-entry-requires c κs = search needs
-
 enum-told : tie.Need-enum-told Inv-loop μ-loop Inv-entries μ-entries
 enum-told c = c .match .keys1
 
 loop-holds : tie.Need-loop-holds Inv-loop μ-loop Inv-entries μ-entries
 loop-holds c = (omega arith, refl)
-
-mul-u16-at : tie.Need-mul-u16-at Inv-loop μ-loop Inv-entries μ-entries
-mul-u16-at c = omega arith
-
-add-u16-at : tie.Need-add-u16-at Inv-loop μ-loop Inv-entries μ-entries
-add-u16-at c = omega arith
-
-u16-at-requires-3 : tie.Need-u16-at-requires-3 Inv-loop μ-loop Inv-entries μ-entries
-u16-at-requires-3 c κs = search needs
-
-is-host-requires : tie.Need-is-host-requires Inv-loop μ-loop Inv-entries μ-entries
-is-host-requires c κs = search needs
-
-add-k : tie.Need-add-k Inv-loop μ-loop Inv-entries μ-entries
-add-k c = omega arith
-
-loop-less : tie.Need-loop-less Inv-loop μ-loop Inv-entries μ-entries
-loop-less c = omega arith
 
 loop-again : tie.Need-loop-again Inv-loop μ-loop Inv-entries μ-entries
 loop-again c =
@@ -161,12 +95,6 @@ loop-again c =
       c .before .before .before .before .loop .inv .1
           ∙ secondary-good _ _ k (omega arith) (c .before .is-host .ensures) (c .before .before .u16-at3 .ensures) (c .if7 .left),
     )
-
-add-e-2 : tie.Need-add-e-2 Inv-loop μ-loop Inv-entries μ-entries
-add-e-2 c = omega arith
-
-entries-less-2 : tie.Need-entries-less-2 Inv-loop μ-loop Inv-entries μ-entries
-entries-less-2 c = omega arith
 
 entries-again-2 : tie.Need-entries-again-2 Inv-loop μ-loop Inv-entries μ-entries
 entries-again-2 c =
@@ -226,37 +154,37 @@ judge-spec =
     μ-entries
     returns
     returns-2
-    u16-at-requires
+    (λ c κs. search needs)
     returns-3
-    u16-at-requires-2
+    (λ c κs. search needs)
     returns-4
     entries-holds
-    mul-part
-    add-part
-    mul-part-2
-    add-part-2
-    add-part-3
-    sub-part
-    part-part-start
-    part-part-end
-    byte-at-requires
-    add-e
-    entries-less
+    (λ c. omega arith)
+    (λ c. omega arith)
+    (λ c. omega arith)
+    (λ c. omega arith)
+    (λ c. omega arith)
+    (λ c. omega arith)
+    (λ c. omega arith)
+    (λ c. omega arith)
+    (λ c κs. search needs)
+    (λ c. omega arith)
+    (λ c. omega arith)
     entries-again
-    cast-named-before
-    named-before-requires
-    check-entry-requires
+    (λ c. search needs)
+    (λ c κs. search needs)
+    (λ c κs. search needs)
     enum-told
     loop-holds
-    mul-u16-at
-    add-u16-at
-    u16-at-requires-3
-    is-host-requires
-    add-k
-    loop-less
+    (λ c. omega arith)
+    (λ c. omega arith)
+    (λ c κs. search needs)
+    (λ c κs. search needs)
+    (λ c. omega arith)
+    (λ c. omega arith)
     loop-again
-    add-e-2
-    entries-less-2
+    (λ c. omega arith)
+    (λ c. omega arith)
     entries-again-2
     returns-5
     returns-6

@@ -1,4 +1,4 @@
--- `access_rights::is_controller` meets its contract. Assumes nothing.
+-- `access_rights::is_controller` meets its contract.
 use mathlib.Core.Path.{refl}
 use Rattle.access_rights.proofs.is_controller.Statement.{statement}
 use Rattle.access_rights.proofs.is_controller.Tie as tie

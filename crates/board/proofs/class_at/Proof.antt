@@ -1,17 +1,8 @@
--- `board::class_at` meets its contract: any byte is a class, and past the rows it is the one that the definition gives. Assumes nothing.
+-- `board::class_at` meets its contract: any byte is a class, and past the rows it is the one that the definition gives.
 use borrow.Author.Needs.{needs}
 use Rattle.board.proofs.Read.{class-read, class-past}
 use Rattle.board.proofs.class_at.Statement.{statement}
 use Rattle.board.proofs.class_at.Tie as tie
-
-add-result : tie.Need-add-result
-add-result c = search needs
-
-element-copy-out-result : tie.Need-element-copy-out-result
-element-copy-out-result c = search needs
-
-cast-result : tie.Need-cast-result
-cast-result c = search needs
 
 returns : tie.Need-returns
 returns c = class-read _ _ (c .before .if1 .taken)
@@ -21,4 +12,4 @@ returns-2 c = class-past _ _ (c .if1 .left)
 
 pub class-at-spec : {M : Type 1} → statement M
 class-at-spec =
-    tie.close (tie.spec add-result element-copy-out-result cast-result returns returns-2)
+    tie.close (tie.spec (λ c. search needs) (λ c. search needs) (λ c. search needs) returns returns-2)

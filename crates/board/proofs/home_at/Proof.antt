@@ -1,15 +1,9 @@
--- `board::home_at` meets its contract: any byte is a home, and past the rows it is the one that the definition gives. Assumes nothing.
+-- `board::home_at` meets its contract: any byte is a home, and past the rows it is the one that the definition gives.
 use native.Mathlib.Omega.{arith}
 use borrow.Author.Needs.{needs}
 use Rattle.board.proofs.Read.{home-read, home-past}
 use Rattle.board.proofs.home_at.Statement.{statement}
 use Rattle.board.proofs.home_at.Tie as tie
-
-add-result : tie.Need-add-result
-add-result c = search needs
-
-element-copy-out-result : tie.Need-element-copy-out-result
-element-copy-out-result c = search needs
 
 returns : tie.Need-returns
 returns c = (home-read _ _ (c .before .if1 .taken), omega arith)
@@ -18,4 +12,4 @@ returns-2 : tie.Need-returns-2
 returns-2 c = (home-past _ _ (c .if1 .left), omega arith)
 
 pub home-at-spec : {M : Type 1} → statement M
-home-at-spec = tie.close (tie.spec add-result element-copy-out-result returns returns-2)
+home-at-spec = tie.close (tie.spec (λ c. search needs) (λ c. search needs) returns returns-2)

@@ -1,4 +1,4 @@
--- `board::is_host` meets its contract: host 0, a byte of the table, and none above 255. Assumes nothing.
+-- `board::is_host` meets its contract: host 0, a byte of the table, and none above 255.
 use borrow.Author.Needs.{needs}
 use borrow.Author.Tests.{eq-eqb, ne-eqb}
 use Rattle.rules.specs.Board.{boardHost}
@@ -10,9 +10,6 @@ returns : tie.Need-returns
 unfolding boardHost
 returns c = rw (eq-eqb _ 0 (c .if1 .taken))
 
-element-copy-out-result : tie.Need-element-copy-out-result
-element-copy-out-result c = search needs
-
 returns-2 : tie.Need-returns-2
 returns-2 c = host-read _ _ (c .before .if2 .taken) (ne-eqb _ 0 (c .before .before .if1 .left))
 
@@ -20,4 +17,4 @@ returns-3 : tie.Need-returns-3
 returns-3 c = host-none _ _ (c .if2 .left) (ne-eqb _ 0 (c .before .if1 .left))
 
 pub is-host-spec : {M : Type 1} → statement M
-is-host-spec = tie.close (tie.spec returns element-copy-out-result returns-2 returns-3)
+is-host-spec = tie.close (tie.spec returns (λ c. search needs) returns-2 returns-3)

@@ -1,4 +1,4 @@
--- `board::mask_of` meets its contract: outside the table no flag bit may be named. Assumes nothing.
+-- `board::mask_of` meets its contract: outside the table no flag bit may be named.
 use Prim.Native.Nat.{ℕ, zero, suc, _≤_}
 use mathlib.Core.Path.{_≡_, refl}
 use native.Mathlib.Omega.{arith}
@@ -22,18 +22,6 @@ no-class zero word h = absurd (omega arith)
 no-class (suc zero) word h = absurd (omega arith)
 no-class (suc (suc class)) word h = refl
 
-mul-result : tie.Need-mul-result
-mul-result c = search needs
-
-mul-result-2 : tie.Need-mul-result-2
-mul-result-2 c = search needs
-
-index-1-result : tie.Need-index-1-result
-index-1-result c = search needs
-
-index-2-result : tie.Need-index-2-result
-index-2-result c = search needs
-
 returns : tie.Need-returns
 unfolding maskOf
 returns c = search needs
@@ -47,4 +35,4 @@ returns-3 c = no-class _ _ (c .if1 .left)
 pub mask-of-spec : {M : Type 1} → statement M
 mask-of-spec =
     tie.close
-    (tie.spec mul-result mul-result-2 index-1-result index-2-result returns returns-2 returns-3)
+    (tie.spec (λ c. search needs) (λ c. search needs) (λ c. search needs) (λ c. search needs) returns returns-2 returns-3)

@@ -1,5 +1,4 @@
 -- `board_description::judge` meets its contract. The loop's invariant: the cursor is at an item, and none of those before has a fault.
--- Assumes nothing.
 use Prim.Native.Nat.{_-_}
 use mathlib.Core.Path.{sym, ap, _∙_}
 use mathlib.Core.Bool.{Bool}
@@ -29,15 +28,6 @@ returns c = rw (c .if1 .taken)
 loop-holds : tie.Need-loop-holds Inv-loop μ-loop
 loop-holds c = reached-start (now (c .before .before .args .description))
 
-item-at-requires : tie.Need-item-at-requires Inv-loop μ-loop
-item-at-requires c κs = search needs
-
-look-back-requires : tie.Need-look-back-requires Inv-loop μ-loop
-look-back-requires c κs = search needs
-
-fault-of-requires : tie.Need-fault-of-requires Inv-loop μ-loop
-fault-of-requires c κs = search needs
-
 enum-told : tie.Need-enum-told Inv-loop μ-loop
 enum-told c = c .match .keys1
 
@@ -50,9 +40,6 @@ returns-2 c =
     ∙ turn-bad (now (a .description)) (l .at) (l .count) (l .inv) (c .before .before .before .before .loop-test .taken)
     (c .before .before .before .item-at .ensures) (judged-is (now (a .description)) (l .at) (l .count) _ (l .inv) (c .before .fault-of .ensures) (c .before .before .look-back .ensures))
     (λ good. no-fault (rw good at (c .match .keys2))))
-
-field-size-requires : tie.Need-field-size-requires Inv-loop μ-loop
-field-size-requires c κs = search needs
 
 -- the item has no fault: the cursor goes on
 next : tie.Need-loop-again Inv-loop μ-loop
@@ -93,12 +80,12 @@ judge-spec =
     μ-loop
     returns
     loop-holds
-    item-at-requires
-    look-back-requires
-    fault-of-requires
+    (λ c κs. search needs)
+    (λ c κs. search needs)
+    (λ c κs. search needs)
     enum-told
     returns-2
-    field-size-requires
+    (λ c κs. search needs)
     add-at
     add-count
     loop-less

@@ -1,5 +1,5 @@
 -- `board_setup::fill` meets its contract. The loop's invariant: the cursor is at an item, the memory has the board that the items before it list,
--- and `row` is the first free one. Assumes nothing.
+-- and `row` is the first free one.
 use Prim.Native.Nat.{_-_}
 use native.Mathlib.Omega.{arith}
 use borrow.Author.Needs.{needs}
@@ -16,14 +16,8 @@ Inv-loop board₀ description at₀ count₀ row₀ board at count row = Filled 
 abbrev μ-loop : tie.MeasureT-loop
 μ-loop board₀ description at₀ count₀ row₀ board at count row = length description - at
 
-clear-requires : tie.Need-clear-requires Inv-loop μ-loop
-clear-requires c κs = search needs
-
 loop-holds : tie.Need-loop-holds Inv-loop μ-loop
 loop-holds c = filled-start (now (c .before .before .before .args .description)) (c .clear .ensures)
-
-item-at-requires : tie.Need-item-at-requires Inv-loop μ-loop
-item-at-requires c κs = search needs
 
 put-requires : tie.Need-put-requires Inv-loop μ-loop
 put-requires c κs =
@@ -41,9 +35,6 @@ put-requires c κs =
 
 row-after-requires : tie.Need-row-after-requires Inv-loop μ-loop
 row-after-requires c κs = omega (arith, c .before .before .before .before .loop .inv .few)
-
-field-size-requires : tie.Need-field-size-requires Inv-loop μ-loop
-field-size-requires c κs = search needs
 
 -- the item is put: the walk goes on
 next : tie.Need-loop-again Inv-loop μ-loop
@@ -77,12 +68,12 @@ fill-spec =
     (tie.spec
     Inv-loop
     μ-loop
-    clear-requires
+    (λ c κs. search needs)
     loop-holds
-    item-at-requires
+    (λ c κs. search needs)
     put-requires
     row-after-requires
-    field-size-requires
+    (λ c κs. search needs)
     add-at
     add-count
     loop-less

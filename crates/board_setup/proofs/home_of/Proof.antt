@@ -1,5 +1,5 @@
 -- `board_setup::home_of` meets its contract. The loop's invariant: the cursor is at item k, `earlier` is the first row behind the processors
--- passed, and none of those has the cluster's word. Assumes nothing.
+-- passed, and none of those has the cluster's word.
 use Prim.Native.Nat.{ℕ, _+_, _-_, _≤_}
 use mathlib.Core.Path.{_≡_, refl, sym, ap, _∙_}
 use mathlib.Core.Bool.{false}
@@ -25,9 +25,6 @@ Inv-loop description count row cluster at₀ k₀ earlier₀ at k earlier =
 abbrev μ-loop : tie.MeasureT-loop
 μ-loop description count row cluster at₀ k₀ earlier₀ at k earlier = count - k
 
-shared-cluster-requires : tie.Need-shared-cluster-requires Inv-loop μ-loop
-shared-cluster-requires c κs = search needs
-
 returns : tie.Need-returns Inv-loop μ-loop
 returns c =
     let start = c .before .before .before in
@@ -39,12 +36,6 @@ unfolding cursorAt
 loop-holds c =
     let bytes = now (c .before .before .before .args .description) in
     (omega arith, refl, row-start bytes, word-start bytes (c .before .shared-cluster .result))
-
-item-at-requires : tie.Need-item-at-requires Inv-loop μ-loop
-item-at-requires c κs = search needs
-
-shares-requires : tie.Need-shares-requires Inv-loop μ-loop
-shares-requires c κs = search needs
 
 returns-2 : tie.Need-returns-2 Inv-loop μ-loop
 returns-2 c =
@@ -64,9 +55,6 @@ row-after-requires c κs =
     let start = c .before .before .before .before .before .before .before .before in
     omega (arith, l .inv .2, start .pre .0 .free, start .pre .1 .1, rows-order (now (start .args .description)) (l .k) (start .args .count) (omega arith))
 
-field-size-requires : tie.Need-field-size-requires Inv-loop μ-loop
-field-size-requires c κs = search needs
-
 add-at : tie.Need-add-at Inv-loop μ-loop
 add-at c =
     let l = c .before .before .before .before .before .before .loop in
@@ -74,12 +62,6 @@ add-at c =
     let bytes = now (start .args .description) in
     let next = cursor-step bytes (l .k) (l .inv .1) (c .before .before .before .before .item-at .ensures) (c .field-size .ensures) in
     omega (arith, start .pre .0 .within, cursor-order bytes (l .k + 1) (start .args .count) (omega arith))
-
-add-k : tie.Need-add-k Inv-loop μ-loop
-add-k c = omega arith
-
-loop-less : tie.Need-loop-less Inv-loop μ-loop
-loop-less c = omega arith
 
 loop-again : tie.Need-loop-again Inv-loop μ-loop
 loop-again c =
@@ -112,16 +94,16 @@ home-of-spec =
     (tie.spec
     Inv-loop
     μ-loop
-    shared-cluster-requires
+    (λ c κs. search needs)
     returns
     loop-holds
-    item-at-requires
-    shares-requires
+    (λ c κs. search needs)
+    (λ c κs. search needs)
     returns-2
     row-after-requires
-    field-size-requires
+    (λ c κs. search needs)
     add-at
-    add-k
-    loop-less
+    (λ c. omega arith)
+    (λ c. omega arith)
     loop-again
     returns-3)

@@ -1,4 +1,4 @@
--- `board_setup::offer_board` meets its contract: a refused description leaves the memory, an accepted one fills it. Assumes nothing.
+-- `board_setup::offer_board` meets its contract: a refused description leaves the memory, an accepted one fills it.
 use mathlib.Core.Path.{sym, _∙_}
 use borrow.Author.Needs.{needs}
 use denote.Ref.{now}
@@ -6,12 +6,6 @@ use Rattle.rules.proofs.Verdicts.{no-fault}
 use Rattle.board_setup.proofs.Fills.{offer-refused, offer-taken, offer-first}
 use Rattle.board_setup.proofs.offer_board.Statement.{statement}
 use Rattle.board_setup.proofs.offer_board.Tie as tie
-
-judge-requires : tie.Need-judge-requires
-judge-requires c κs = search needs
-
-enum-told : tie.Need-enum-told
-enum-told c = search needs
 
 returns : tie.Need-returns
 returns c =
@@ -33,4 +27,4 @@ returns-2 c =
     (sym good ∙ judged, c .fill .ensures ∙ offer-taken (now (a .board)) (now (a .description)) (a .listed) judged good)
 
 pub offer-board-spec : {M : Type 1} → statement M
-offer-board-spec = tie.close (tie.spec judge-requires enum-told returns fill-requires returns-2)
+offer-board-spec = tie.close (tie.spec (λ c κs. search needs) (λ c. search needs) returns fill-requires returns-2)

@@ -1,4 +1,4 @@
--- `board_setup::put` meets its contract: a host is one store, a processor three. Assumes nothing.
+-- `board_setup::put` meets its contract: a host is one store, a processor three.
 use Prim.Native.Nat.{ℕ, _+_}
 use mathlib.Core.Path.{sym, ap, _∙_}
 use native.Mathlib.Omega.{arith}
@@ -11,15 +11,6 @@ use Rattle.board_setup.specs.Filled.{putItem}
 use Rattle.board_setup.proofs.put.Statement.{statement}
 use Rattle.board_setup.proofs.put.Tie as tie
 
-cast-number : tie.Need-cast-number
-cast-number c = search needs
-
-add-board : tie.Need-add-board
-add-board c = search needs
-
-element-write-board : tie.Need-element-write-board
-element-write-board c = search needs
-
 returns : tie.Need-returns
 unfolding putItem
 returns c = sym (cond-true _ _ (eq-eqb _ 1 (c .before .if1 .taken)))
@@ -30,21 +21,9 @@ home-of-requires c κs =
     let processor = ne-eqb _ 1 (c .if1 .left) in
     (start .pre .0, (processor, start .pre .1 .1 processor))
 
-add-board-2 : tie.Need-add-board-2
-add-board-2 c = search needs
-
-element-write-board-2 : tie.Need-element-write-board-2
-element-write-board-2 c = search needs
-
-add-board-3 : tie.Need-add-board-3
-add-board-3 c = search needs
-
 element-write-board-3 : tie.Need-element-write-board-3
 element-write-board-3 c =
     omega (arith, c .before .before .before .before .before .pre .1 .1 (ne-eqb _ 1 (c .before .if1 .left)))
-
-add-board-4 : tie.Need-add-board-4
-add-board-4 c = search needs
 
 element-write-board-4 : tie.Need-element-write-board-4
 element-write-board-4 c =
@@ -64,15 +43,15 @@ pub put-spec : {M : Type 1} → statement M
 put-spec =
     tie.close
     (tie.spec
-    cast-number
-    add-board
-    element-write-board
+    (λ c. search needs)
+    (λ c. search needs)
+    (λ c. search needs)
     returns
     home-of-requires
-    add-board-2
-    element-write-board-2
-    add-board-3
+    (λ c. search needs)
+    (λ c. search needs)
+    (λ c. search needs)
     element-write-board-3
-    add-board-4
+    (λ c. search needs)
     element-write-board-4
     returns-2)

@@ -1,4 +1,4 @@
--- `board_setup::row_after` meets its contract. Assumes nothing.
+-- `board_setup::row_after` meets its contract.
 use mathlib.Core.Path.{sym}
 use borrow.Author.Needs.{needs}
 use borrow.Author.Tests.{eq-eqb, ne-eqb}
@@ -11,12 +11,9 @@ returns : tie.Need-returns
 unfolding rowAfter
 returns c = sym (cond-true _ _ (eq-eqb _ 1 (c .if1 .taken)))
 
-add-result : tie.Need-add-result
-add-result c = search needs
-
 returns-2 : tie.Need-returns-2
 unfolding rowAfter
 returns-2 c = sym (cond-false _ _ (ne-eqb _ 1 (c .if1 .left)))
 
 pub row-after-spec : {M : Type 1} → statement M
-row-after-spec = tie.close (tie.spec returns add-result returns-2)
+row-after-spec = tie.close (tie.spec returns (λ c. search needs) returns-2)

@@ -1,4 +1,4 @@
--- `board_setup::shared_cluster` meets its contract. Assumes nothing.
+-- `board_setup::shared_cluster` meets its contract.
 use mathlib.Core.Path.{sym}
 use borrow.Author.Tests.{eq-eqb, ne-eqb}
 use Rattle.rules.specs.Description.{sharedCluster}

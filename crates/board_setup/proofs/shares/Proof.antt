@@ -1,4 +1,4 @@
--- `board_setup::shares` meets its contract. Assumes nothing.
+-- `board_setup::shares` meets its contract.
 use Prim.Native.Nat.{ℕ}
 use mathlib.Core.Path.{ap}
 use mathlib.Core.Bool.{not, _&&_}
@@ -9,9 +9,6 @@ use Rattle.board_setup.specs.Filled.{sharesWord}
 use Rattle.board_setup.proofs.shares.Statement.{statement}
 use Rattle.board_setup.proofs.shares.Tie as tie
 
-shared-cluster-requires : tie.Need-shared-cluster-requires
-shared-cluster-requires c κs = search needs
-
 returns : tie.Need-returns
 unfolding sharesWord
 returns c =
@@ -19,4 +16,4 @@ returns c =
     ap (λ (n : ℕ). not (isHost (a .item)) && eqb (a .cluster) n) (c .shared-cluster .ensures)
 
 pub shares-spec : {M : Type 1} → statement M
-shares-spec = tie.close (tie.spec shared-cluster-requires returns)
+shares-spec = tie.close (tie.spec (λ c κs. search needs) returns)

@@ -1,4 +1,4 @@
--- `call_message::decide` meets its contract: the rows up to the sender refuse, or those from the type on decide. Assumes nothing.
+-- `call_message::decide` meets its contract: the rows up to the sender refuse, or those from the type on decide.
 use mathlib.Core.Path.{subst⁻¹}
 use mathlib.Core.List.{[], _∷_}
 use types.Run.{miss}
@@ -8,18 +8,6 @@ use Rattle.call_message.proofs.Tables.{passed-on, refused-first}
 use borrow.Author.Needs.{needs}
 use Rattle.call_message.proofs.decide.Statement.{statement}
 use Rattle.call_message.proofs.decide.Tie as tie
-
-admit-requires : tie.Need-admit-requires
-admit-requires c κs = search needs
-
-enum-told : tie.Need-enum-told
-enum-told c = search needs
-
-by-kind-requires : tie.Need-by-kind-requires
-by-kind-requires c κs = search needs
-
-outcome-alone-requires : tie.Need-outcome-alone-requires
-outcome-alone-requires c κs = search needs
 
 returns : tie.Need-returns
 returns c =
@@ -40,4 +28,4 @@ returns-2 c =
 pub decide-spec : {M : Type 1} → statement M
 decide-spec =
     tie.close
-    (tie.spec admit-requires enum-told by-kind-requires outcome-alone-requires returns returns-2)
+    (tie.spec (λ c κs. search needs) (λ c. search needs) (λ c κs. search needs) (λ c κs. search needs) returns returns-2)

@@ -1,4 +1,4 @@
--- `call_message::message` meets its contract: its steps, over the whole memories lent, are those of the message call. Assumes nothing.
+-- `call_message::message` meets its contract: its steps, over the whole memories lent, are those of the message call.
 use mathlib.Core.Path.{_≡_, sym, ap, _∙_}
 use lib.ListN.{length}
 use denote.Ref.{now}
@@ -6,15 +6,6 @@ use Rattle.call_message.proofs.EachCall.{memory-length, message-call}
 use borrow.Author.Needs.{needs}
 use Rattle.call_message.proofs.message.Statement.{statement}
 use Rattle.call_message.proofs.message.Tie as tie
-
-decide-requires : tie.Need-decide-requires
-decide-requires c κs = search needs
-
-write-answer-requires : tie.Need-write-answer-requires
-write-answer-requires c κs = search needs
-
-same-length : tie.Need-same-length
-same-length c = search needs
 
 returns : tie.Need-returns
 returns c =
@@ -29,4 +20,4 @@ returns c =
     (c .before .before .write-answer .ensures)
 
 pub message-spec : {M : Type 1} → statement M
-message-spec = tie.close (tie.spec decide-requires write-answer-requires same-length returns)
+message-spec = tie.close (tie.spec (λ c κs. search needs) (λ c κs. search needs) (λ c. search needs) returns)

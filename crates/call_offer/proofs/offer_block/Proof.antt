@@ -1,4 +1,4 @@
--- `call_offer::offer_block` meets its contract: the block call of crate `loading`, read as the rules' state. Assumes nothing.
+-- `call_offer::offer_block` meets its contract: the block call of crate `loading`, read as the rules' state.
 use mathlib.Core.Path.{ap, _∙_}
 use mathlib.Core.List.{List}
 use Prim.Native.Nat.{ℕ}
@@ -11,9 +11,6 @@ use Rattle.call_offer.proofs.EachCall.{block-state}
 use borrow.Author.Needs.{needs}
 use Rattle.call_offer.proofs.offer_block.Statement.{statement}
 use Rattle.call_offer.proofs.offer_block.Tie as tie
-
-offer-block-requires : tie.Need-offer-block-requires
-offer-block-requires c κs = search needs
 
 returns : tie.Need-returns
 returns c =
@@ -30,4 +27,4 @@ returns c =
     }
 
 pub offer-block-spec : {M : Type 1} → statement M
-offer-block-spec = tie.close (tie.spec offer-block-requires returns)
+offer-block-spec = tie.close (tie.spec (λ c κs. search needs) returns)

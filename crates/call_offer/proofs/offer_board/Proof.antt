@@ -1,15 +1,9 @@
--- `call_offer::offer_board` meets its contract: the board call of crate `boards`, read as the rules' state. Assumes nothing.
+-- `call_offer::offer_board` meets its contract: the board call of crate `boards`, read as the rules' state.
 use denote.Ref.{now}
 use Rattle.call_offer.proofs.EachCall.{board-call}
 use borrow.Author.Needs.{needs}
 use Rattle.call_offer.proofs.offer_board.Statement.{statement}
 use Rattle.call_offer.proofs.offer_board.Tie as tie
-
-is-listed-requires : tie.Need-is-listed-requires
-is-listed-requires c κs = search needs
-
-offer-board-requires : tie.Need-offer-board-requires
-offer-board-requires c κs = search needs
 
 returns : tie.Need-returns
 returns c =
@@ -17,4 +11,4 @@ returns c =
     board-call (now (a .board)) (now (a .access)) (now (a .description)) _ (c .before .is-listed .ensures) (c .offer-board .ensures .0) (c .offer-board .ensures .1)
 
 pub offer-board-spec : {M : Type 1} → statement M
-offer-board-spec = tie.close (tie.spec is-listed-requires offer-board-requires returns)
+offer-board-spec = tie.close (tie.spec (λ c κs. search needs) (λ c κs. search needs) returns)

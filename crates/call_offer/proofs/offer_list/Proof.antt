@@ -1,4 +1,4 @@
--- `call_offer::offer_list` meets its contract: the list call of crate `loading`, read as the rules' state. Assumes nothing.
+-- `call_offer::offer_list` meets its contract: the list call of crate `loading`, read as the rules' state.
 use mathlib.Core.Path.{ap, _∙_}
 use mathlib.Core.List.{List}
 use Prim.Native.Nat.{ℕ}
@@ -9,9 +9,6 @@ use Rattle.call_offer.proofs.EachCall.{list-state}
 use borrow.Author.Needs.{needs}
 use Rattle.call_offer.proofs.offer_list.Statement.{statement}
 use Rattle.call_offer.proofs.offer_list.Tie as tie
-
-offer-list-requires : tie.Need-offer-list-requires
-offer-list-requires c κs = search needs
 
 returns : tie.Need-returns
 returns c =
@@ -24,4 +21,4 @@ returns c =
     }
 
 pub offer-list-spec : {M : Type 1} → statement M
-offer-list-spec = tie.close (tie.spec offer-list-requires returns)
+offer-list-spec = tie.close (tie.spec (λ c κs. search needs) returns)

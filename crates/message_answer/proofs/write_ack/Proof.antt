@@ -1,4 +1,4 @@
--- `message_answer::write_ack` meets its contract: nothing where none is asked for, the 29 bytes of get status, or the header. Assumes nothing.
+-- `message_answer::write_ack` meets its contract: nothing where none is asked for, the 29 bytes of get status, or the header.
 use mathlib.Core.Path.{sym, _∙_}
 use mathlib.Core.List.{[], _∷_}
 use borrow.Author.Tests.{not-true, not-false}
@@ -11,41 +11,8 @@ use borrow.Author.Needs.{needs}
 use Rattle.message_answer.proofs.write_ack.Statement.{statement}
 use Rattle.message_answer.proofs.write_ack.Tie as tie
 
-answer-asked-requires : tie.Need-answer-asked-requires
-answer-asked-requires c κs = search needs
-
 returns : tie.Need-returns
 returns c = puts-none _ _ (bytes-unasked _ _ _ (sym (c .before .answer-asked .ensures) ∙ not-true _ (c .if1 .taken)))
-
-u16-at-requires : tie.Need-u16-at-requires
-u16-at-requires c κs = search needs
-
-kind-of-requires : tie.Need-kind-of-requires
-kind-of-requires c κs = search needs
-
-enum-told : tie.Need-enum-told
-enum-told c = search needs
-
-row-in-requires : tie.Need-row-in-requires
-row-in-requires c κs = search needs
-
-load-requires : tie.Need-load-requires
-load-requires c κs = search needs
-
-status-now-requires : tie.Need-status-now-requires
-status-now-requires c κs = search needs
-
-status-answer-requires : tie.Need-status-answer-requires
-status-answer-requires c κs = search needs
-
-slice-aggregate-put : tie.Need-slice-aggregate-put
-slice-aggregate-put c = search needs
-
-put-requires : tie.Need-put-requires
-put-requires c κs = search needs
-
-same-length : tie.Need-same-length
-same-length c = search needs
 
 returns-2 : tie.Need-returns-2
 unfolding subjectOf
@@ -58,18 +25,6 @@ returns-2 c =
     ((rw (c .before .before .before .before .before .before .status-now .ensures, c .before .before .before .before .before .before .before .load .ensures, c .before .before .before .before .before .before .before .before .row-in .ensures) at (c .before .before .before .before .before .status-answer .ensures))
     ∙ sym (bytes-status _ _ asked is))
     (c .before .before .put .ensures)
-
-header-requires : tie.Need-header-requires
-header-requires c κs = search needs
-
-slice-aggregate-put-2 : tie.Need-slice-aggregate-put-2
-slice-aggregate-put-2 c = search needs
-
-put-requires-2 : tie.Need-put-requires-2
-put-requires-2 c κs = search needs
-
-same-length-2 : tie.Need-same-length-2
-same-length-2 c = search needs
 
 returns-3 : tie.Need-returns-3
 returns-3 c =
@@ -86,21 +41,21 @@ pub write-ack-spec : {M : Type 1} → statement M
 write-ack-spec =
     tie.close
     (tie.spec
-    answer-asked-requires
+    (λ c κs. search needs)
     returns
-    u16-at-requires
-    kind-of-requires
-    enum-told
-    row-in-requires
-    load-requires
-    status-now-requires
-    status-answer-requires
-    slice-aggregate-put
-    put-requires
-    same-length
+    (λ c κs. search needs)
+    (λ c κs. search needs)
+    (λ c. search needs)
+    (λ c κs. search needs)
+    (λ c κs. search needs)
+    (λ c κs. search needs)
+    (λ c κs. search needs)
+    (λ c. search needs)
+    (λ c κs. search needs)
+    (λ c. search needs)
     returns-2
-    header-requires
-    slice-aggregate-put-2
-    put-requires-2
-    same-length-2
+    (λ c κs. search needs)
+    (λ c. search needs)
+    (λ c κs. search needs)
+    (λ c. search needs)
     returns-3)

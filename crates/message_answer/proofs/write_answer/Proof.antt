@@ -1,4 +1,4 @@
--- `message_answer::write_answer` meets its contract: an ACK, nothing or a NAK, by the outcome's number. Assumes nothing.
+-- `message_answer::write_answer` meets its contract: an ACK, nothing or a NAK, by the outcome's number.
 use mathlib.Core.Path.{sym, _∙_}
 use borrow.Author.Tests.{eq-eqb, ne-eqb, le-ltb}
 use Rattle.rules.specs.Outcome.{carriedOut, silent}
@@ -6,15 +6,6 @@ use Rattle.message_answer.proofs.Answers.{puts-none, puts-same, bytes-o
 use borrow.Author.Needs.{needs}
 use Rattle.message_answer.proofs.write_answer.Statement.{statement}
 use Rattle.message_answer.proofs.write_answer.Tie as tie
-
-outcome-number-requires : tie.Need-outcome-number-requires
-outcome-number-requires c κs = search needs
-
-write-ack-requires : tie.Need-write-ack-requires
-write-ack-requires c κs = search needs
-
-same-length : tie.Need-same-length
-same-length c = search needs
 
 returns : tie.Need-returns
 unfolding carriedOut
@@ -26,12 +17,6 @@ returns c =
 returns-2 : tie.Need-returns-2
 returns-2 c =
     puts-none _ _ (bytes-silent _ _ _ (rw (c .before .before .outcome-number .ensures) at (c .if2 .taken)))
-
-write-nak-requires : tie.Need-write-nak-requires
-write-nak-requires c κs = search needs
-
-same-length-2 : tie.Need-same-length-2
-same-length-2 c = search needs
 
 returns-3 : tie.Need-returns-3
 unfolding carriedOut silent
@@ -46,11 +31,11 @@ pub write-answer-spec : {M : Type 1} → statement M
 write-answer-spec =
     tie.close
     (tie.spec
-    outcome-number-requires
-    write-ack-requires
-    same-length
+    (λ c κs. search needs)
+    (λ c κs. search needs)
+    (λ c. search needs)
     returns
     returns-2
-    write-nak-requires
-    same-length-2
+    (λ c κs. search needs)
+    (λ c. search needs)
     returns-3)

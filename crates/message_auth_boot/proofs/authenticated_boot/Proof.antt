@@ -1,4 +1,4 @@
--- `message_auth_boot::authenticated_boot` meets its contract: N4 or N5. Assumes nothing.
+-- `message_auth_boot::authenticated_boot` meets its contract: N4 or N5.
 use mathlib.Core.Path.{refl, sym}
 use borrow.Author.Tests.{lt-ltb, le-ltb}
 use Rattle.rules.specs.declared.Kind.the-variants.{AuthBoot}

@@ -1,15 +1,12 @@
--- `message_fields::answer_asked` meets its contract. Assumes nothing.
+-- `message_fields::answer_asked` meets its contract.
 use Rattle.rules.specs.Message.{answerAsked}
 use borrow.Author.Needs.{needs}
 use Rattle.message_fields.proofs.answer_asked.Statement.{statement}
 use Rattle.message_fields.proofs.answer_asked.Tie as tie
-
-u32-at-requires : tie.Need-u32-at-requires
-u32-at-requires c κs = search needs
 
 returns : tie.Need-returns
 unfolding answerAsked
 returns c = rw (c .u32-at .ensures)
 
 pub answer-asked-spec : {M : Type 1} → statement M
-answer-asked-spec = tie.close (tie.spec u32-at-requires returns)
+answer-asked-spec = tie.close (tie.spec (λ c κs. search needs) returns)

@@ -1,4 +1,4 @@
--- `message_fields::keeps_vector` meets its contract. Assumes nothing.
+-- `message_fields::keeps_vector` meets its contract.
 use mathlib.Core.Path.{refl}
 use Rattle.message_fields.proofs.keeps_vector.Statement.{statement}
 use Rattle.message_fields.proofs.keeps_vector.Tie as tie

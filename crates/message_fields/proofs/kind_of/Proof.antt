@@ -1,4 +1,4 @@
--- `message_fields::kind_of` meets its contract: each arm is a line of the table of types, and the rest is none of them. Assumes nothing.
+-- `message_fields::kind_of` meets its contract: each arm is a line of the table of types, and the rest is none of them.
 use borrow.Author.Tests.{ne-eqb}
 use Rattle.rules.specs.Table.{firstOf}
 use Rattle.rules.specs.Message.{kindOf}

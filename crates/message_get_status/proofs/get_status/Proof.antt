@@ -1,4 +1,4 @@
--- `message_get_status::get_status` meets its contract: a law for each row. Assumes nothing.
+-- `message_get_status::get_status` meets its contract: a law for each row.
 use mathlib.Core.Path.{refl}
 use denote.Ref.{now}
 use Rattle.rules.specs.declared.Kind.the-variants.{GetStatus}
@@ -28,14 +28,8 @@ at-R3 c state = admitted (at-N7 (c .before .before) state) (c .before .is-permit
 returns : tie.Need-returns
 returns c state = reads (too-short (c .if1 .taken) .comes)
 
-row-in-requires : tie.Need-row-in-requires
-row-in-requires c κs = search needs
-
 returns-2 : tie.Need-returns-2
 returns-2 c state = reads (off-board (c .before .before .if1 .left) refl (c .before .row-in .ensures) (c .if2 .taken) .comes)
-
-is-permitted-requires : tie.Need-is-permitted-requires
-is-permitted-requires c κs = search needs
 
 returns-3 : tie.Need-returns-3
 returns-3 c state =
@@ -52,9 +46,9 @@ get-status-spec =
     tie.close
     (tie.spec
     returns
-    row-in-requires
+    (λ c κs. search needs)
     returns-2
-    is-permitted-requires
+    (λ c κs. search needs)
     returns-3
     returns-4
     returns-5)

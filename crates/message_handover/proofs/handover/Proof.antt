@@ -1,4 +1,4 @@
--- `message_handover::handover` meets its contract: N4 to N8 by a law for each, and the new host controls, which is counted. Assumes nothing.
+-- `message_handover::handover` meets its contract: N4 to N8 by a law for each, and the new host controls, which is counted.
 use mathlib.Core.Path.{_≡_, refl, ap, _∙_}
 use mathlib.Core.List.{[]}
 use denote.Ref.{now}
@@ -38,30 +38,12 @@ new-host c = c .is-permitted .ensures ∙ ap (permitted _ _) (c .before .byte-at
 returns : tie.Need-returns
 returns c = refuses (too-short (c .if1 .taken))
 
-row-in-requires : tie.Need-row-in-requires
-row-in-requires c κs = search needs
-
 returns-2 : tie.Need-returns-2
 returns-2 c = refuses (off-board (c .before .before .if1 .left) refl (c .before .row-in .ensures) (c .if2 .taken))
-
-load-requires : tie.Need-load-requires
-load-requires c κs = search needs
-
-is-controller-requires : tie.Need-is-controller-requires
-is-controller-requires c κs = search needs
 
 returns-3 : tie.Need-returns-3
 returns-3 c =
     refuses (lacks-right (at-N7 (c .before .before) .reached) (c .before .is-controller .ensures) (c .if3 .taken))
-
-byte-at-requires : tie.Need-byte-at-requires
-byte-at-requires c κs = search needs
-
-cast-is-permitted : tie.Need-cast-is-permitted
-cast-is-permitted c = search needs
-
-is-permitted-requires : tie.Need-is-permitted-requires
-is-permitted-requires c κs = search needs
 
 returns-4 : tie.Need-returns-4
 returns-4 c =
@@ -70,9 +52,6 @@ returns-4 c =
     (wrong-operands r (c .before .before .before .before .is-controller .ensures) (c .before .before .before .if3 .left)
     (new-host (c .before))
     (c .if4 .taken))
-
-on-handover-requires : tie.Need-on-handover-requires
-on-handover-requires c κs = search needs
 
 returns-5 : tie.Need-returns-5
 returns-5 c =
@@ -92,14 +71,14 @@ handover-spec =
     tie.close
     (tie.spec
     returns
-    row-in-requires
+    (λ c κs. search needs)
     returns-2
-    load-requires
-    is-controller-requires
+    (λ c κs. search needs)
+    (λ c κs. search needs)
     returns-3
-    byte-at-requires
-    cast-is-permitted
-    is-permitted-requires
+    (λ c κs. search needs)
+    (λ c. search needs)
+    (λ c κs. search needs)
     returns-4
-    on-handover-requires
+    (λ c κs. search needs)
     returns-5)

@@ -1,4 +1,4 @@
--- `message_operation::with_role` meets its contract. Assumes nothing.
+-- `message_operation::with_role` meets its contract.
 use mathlib.Core.Path.{refl}
 use Rattle.message_operation.proofs.with_role.Statement.{statement}
 use Rattle.message_operation.proofs.with_role.Tie as tie

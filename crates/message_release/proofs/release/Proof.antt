@@ -1,4 +1,4 @@
--- `message_release::release` meets its contract: N4, N6 and N7 by a law for each, and nobody controls, which is counted. Assumes nothing.
+-- `message_release::release` meets its contract: N4, N6 and N7 by a law for each, and nobody controls, which is counted.
 use mathlib.Core.Path.{refl, _∙_}
 use mathlib.Core.List.{[]}
 use denote.Ref.{now}
@@ -28,24 +28,12 @@ at-N7 c =
 returns : tie.Need-returns
 returns c access = refuses (too-short (c .if1 .taken))
 
-row-in-requires : tie.Need-row-in-requires
-row-in-requires c κs = search needs
-
 returns-2 : tie.Need-returns-2
 returns-2 c access = refuses (off-board (c .before .before .if1 .left) refl (c .before .row-in .ensures) (c .if2 .taken))
-
-load-requires : tie.Need-load-requires
-load-requires c κs = search needs
-
-is-controller-requires : tie.Need-is-controller-requires
-is-controller-requires c κs = search needs
 
 returns-3 : tie.Need-returns-3
 returns-3 c access =
     refuses (lacks-right (at-N7 (c .before .before) .reached) (c .before .is-controller .ensures) (c .if3 .taken))
-
-on-release-requires : tie.Need-on-release-requires
-on-release-requires c κs = search needs
 
 returns-4 : tie.Need-returns-4
 returns-4 c access =
@@ -63,10 +51,10 @@ release-spec =
     tie.close
     (tie.spec
     returns
-    row-in-requires
+    (λ c κs. search needs)
     returns-2
-    load-requires
-    is-controller-requires
+    (λ c κs. search needs)
+    (λ c κs. search needs)
     returns-3
-    on-release-requires
+    (λ c κs. search needs)
     returns-4)

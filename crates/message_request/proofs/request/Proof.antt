@@ -1,4 +1,4 @@
--- `message_request::request` meets its contract: N4, N6 and N7 by a law for each, and the sender controls, which is counted; from N7 on with its role. Assumes nothing.
+-- `message_request::request` meets its contract: N4, N6 and N7 by a law for each, and the sender controls, which is counted; from N7 on with its role.
 use mathlib.Core.Path.{_≡_, refl, ap, _∙_}
 use mathlib.Core.List.{[]}
 use denote.Ref.{now}
@@ -36,36 +36,15 @@ right : (c : tie.After-may-request)
     ≡ mayRequest (roleOf (boardIn (now (start l .args .board))) (entryAt (now (start l .args .access)) (l .before .before .before .before .row-in .result)) (start l .args .channel)) (l .load .result)
 right c = c .may-request .ensures ∙ ap (λ (role : Role). mayRequest role (c .before .before .load .result)) (c .before .role-of .ensures)
 
-with-role-requires : tie.Need-with-role-requires
-with-role-requires c κs = search needs
-
 returns : tie.Need-returns
 unfolding carriedOut
 returns c = requests-early (refuses (too-short (c .before .if1 .taken))) refl (c .with-role .ensures)
-
-row-in-requires : tie.Need-row-in-requires
-row-in-requires c κs = search needs
-
-with-role-requires-2 : tie.Need-with-role-requires-2
-with-role-requires-2 c κs = search needs
 
 returns-2 : tie.Need-returns-2
 unfolding carriedOut
 returns-2 c =
     requests-early (refuses (off-board (c .before .before .before .if1 .left) refl (c .before .before .row-in .ensures) (c .before .if2 .taken))) refl
     (c .with-role2 .ensures)
-
-load-requires : tie.Need-load-requires
-load-requires c κs = search needs
-
-role-of-requires : tie.Need-role-of-requires
-role-of-requires c κs = search needs
-
-may-request-requires : tie.Need-may-request-requires
-may-request-requires c κs = search needs
-
-with-role-requires-3 : tie.Need-with-role-requires-3
-with-role-requires-3 c κs = search needs
 
 returns-3 : tie.Need-returns-3
 unfolding carriedOut
@@ -74,12 +53,6 @@ returns-3 c =
     let l = at-N7 (d .before .before) in
     requests-late l (refuses (lacks-right (l .reached) (right d) (c .before .if3 .taken))) refl (d .before .role-of .ensures)
     (c .with-role3 .ensures)
-
-on-request-requires : tie.Need-on-request-requires
-on-request-requires c κs = search needs
-
-with-role-requires-4 : tie.Need-with-role-requires-4
-with-role-requires-4 c κs = search needs
 
 returns-4 : tie.Need-returns-4
 unfolding carriedOut
@@ -101,16 +74,16 @@ pub request-spec : {M : Type 1} → statement M
 request-spec =
     tie.close
     (tie.spec
-    with-role-requires
+    (λ c κs. search needs)
     returns
-    row-in-requires
-    with-role-requires-2
+    (λ c κs. search needs)
+    (λ c κs. search needs)
     returns-2
-    load-requires
-    role-of-requires
-    may-request-requires
-    with-role-requires-3
+    (λ c κs. search needs)
+    (λ c κs. search needs)
+    (λ c κs. search needs)
+    (λ c κs. search needs)
     returns-3
-    on-request-requires
-    with-role-requires-4
+    (λ c κs. search needs)
+    (λ c κs. search needs)
     returns-4)

@@ -1,4 +1,4 @@
--- `message_set_config::set_config` meets its contract: N4 to N8 by a law for each, and the config word changes. Assumes nothing.
+-- `message_set_config::set_config` meets its contract: N4 to N8 by a law for each, and the config word changes.
 use mathlib.Core.Path.{refl}
 use mathlib.Core.List.{[]}
 use denote.Ref.{now}
@@ -28,27 +28,12 @@ at-N7 c =
 returns : tie.Need-returns
 returns c access = refuses (too-short (c .if1 .taken))
 
-row-in-requires : tie.Need-row-in-requires
-row-in-requires c κs = search needs
-
 returns-2 : tie.Need-returns-2
 returns-2 c access = refuses (off-board (c .before .before .if1 .left) refl (c .before .row-in .ensures) (c .if2 .taken))
-
-load-requires : tie.Need-load-requires
-load-requires c κs = search needs
-
-is-controller-requires : tie.Need-is-controller-requires
-is-controller-requires c κs = search needs
 
 returns-3 : tie.Need-returns-3
 returns-3 c access =
     refuses (lacks-right (at-N7 (c .before .before) .reached) (c .before .is-controller .ensures) (c .if3 .taken))
-
-class-at-requires : tie.Need-class-at-requires
-class-at-requires c κs = search needs
-
-config-good-requires : tie.Need-config-good-requires
-config-good-requires c κs = search needs
 
 returns-4 : tie.Need-returns-4
 returns-4 c access =
@@ -57,12 +42,6 @@ returns-4 c access =
     (wrong-operands r (c .before .before .before .before .is-controller .ensures) (c .before .before .before .if3 .left)
     (by-class r configGood (c .before .before .class-at .ensures) (c .before .config-good .ensures))
     (c .if4 .taken))
-
-with-config-requires : tie.Need-with-config-requires
-with-config-requires c κs = search needs
-
-store-own-requires : tie.Need-store-own-requires
-store-own-requires c κs = search needs
 
 returns-5 : tie.Need-returns-5
 returns-5 c access =
@@ -81,14 +60,14 @@ set-config-spec =
     tie.close
     (tie.spec
     returns
-    row-in-requires
+    (λ c κs. search needs)
     returns-2
-    load-requires
-    is-controller-requires
+    (λ c κs. search needs)
+    (λ c κs. search needs)
     returns-3
-    class-at-requires
-    config-good-requires
+    (λ c κs. search needs)
+    (λ c κs. search needs)
     returns-4
-    with-config-requires
-    store-own-requires
+    (λ c κs. search needs)
+    (λ c κs. search needs)
     returns-5)

@@ -1,4 +1,4 @@
--- `message_wait_status::micros` meets its contract: bytes are too small for the product or the sum to wrap. Assumes nothing.
+-- `message_wait_status::micros` meets its contract: bytes are too small for the product or the sum to wrap.
 use Prim.Native.Nat.{ℕ, _≤_, _*_}
 use native.Mathlib.Nat.{mul-le-mul}
 use native.Mathlib.Omega.{arith}
@@ -15,8 +15,5 @@ mul-result c = let p = small (c .args .delay) (c .args .checks) (omega arith) (o
 add-result : tie.Need-add-result
 add-result c = let p = small (c .args .delay) (c .args .checks) (omega arith) (omega arith) in omega arith
 
-returns : tie.Need-returns
-returns c = search needs
-
 pub micros-spec : {M : Type 1} → statement M
-micros-spec = tie.close (tie.spec mul-result add-result returns)
+micros-spec = tie.close (tie.spec mul-result add-result (λ c. search needs))

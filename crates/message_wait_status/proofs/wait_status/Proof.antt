@@ -1,4 +1,4 @@
--- `message_wait_status::wait_status` meets its contract: a law for each row, and what the wait reports. Assumes nothing.
+-- `message_wait_status::wait_status` meets its contract: a law for each row, and what the wait reports.
 use mathlib.Core.Path.{refl}
 use denote.Ref.{now}
 use Rattle.rules.specs.declared.Kind.the-variants.{WaitStatus}
@@ -30,42 +30,18 @@ at-R3 c state =
     (rw (c .before .before .wait-in .ensures) at (c .before .wait-good .ensures))
     (c .if4 .left)
 
-outcome-alone-requires : tie.Need-outcome-alone-requires
-outcome-alone-requires c κs = search needs
-
 returns : tie.Need-returns
 returns c state = unwaits (too-short (c .before .if1 .taken)) (c .outcome-alone .ensures)
-
-row-in-requires : tie.Need-row-in-requires
-row-in-requires c κs = search needs
-
-outcome-alone-requires-2 : tie.Need-outcome-alone-requires-2
-outcome-alone-requires-2 c κs = search needs
 
 returns-2 : tie.Need-returns-2
 returns-2 c state =
     unwaits (off-board (c .before .before .before .if1 .left) refl (c .before .before .row-in .ensures) (c .before .if2 .taken))
     (c .outcome-alone2 .ensures)
 
-is-permitted-requires : tie.Need-is-permitted-requires
-is-permitted-requires c κs = search needs
-
-outcome-alone-requires-3 : tie.Need-outcome-alone-requires-3
-outcome-alone-requires-3 c κs = search needs
-
 returns-3 : tie.Need-returns-3
 returns-3 c state =
     unwaits (lacks-right (at-N7 (c .before .before .before) state) (c .before .before .is-permitted .ensures) (c .before .if3 .taken))
     (c .outcome-alone3 .ensures)
-
-wait-in-requires : tie.Need-wait-in-requires
-wait-in-requires c κs = search needs
-
-wait-good-requires : tie.Need-wait-good-requires
-wait-good-requires c κs = search needs
-
-outcome-alone-requires-4 : tie.Need-outcome-alone-requires-4
-outcome-alone-requires-4 c κs = search needs
 
 returns-4 : tie.Need-returns-4
 returns-4 c state =
@@ -77,19 +53,10 @@ returns-4 c state =
     (d .if4 .taken))
     (c .outcome-alone4 .ensures)
 
-cast-if5 : tie.Need-cast-if5
-cast-if5 c = search needs
-
-outcome-alone-requires-5 : tie.Need-outcome-alone-requires-5
-outcome-alone-requires-5 c κs = search needs
-
 returns-5 : tie.Need-returns-5
 returns-5 c state =
     let w = c .before .before .before .before .before .wait-in .ensures in
     unwaits (few-words (at-R3 (c .before .before .before) state) w (c .before .if5 .taken)) (c .outcome-alone5 .ensures)
-
-waited-requires : tie.Need-waited-requires
-waited-requires c κs = search needs
 
 returns-6 : tie.Need-returns-6
 returns-6 c state =
@@ -100,20 +67,20 @@ pub wait-status-spec : {M : Type 1} → statement M
 wait-status-spec =
     tie.close
     (tie.spec
-    outcome-alone-requires
+    (λ c κs. search needs)
     returns
-    row-in-requires
-    outcome-alone-requires-2
+    (λ c κs. search needs)
+    (λ c κs. search needs)
     returns-2
-    is-permitted-requires
-    outcome-alone-requires-3
+    (λ c κs. search needs)
+    (λ c κs. search needs)
     returns-3
-    wait-in-requires
-    wait-good-requires
-    outcome-alone-requires-4
+    (λ c κs. search needs)
+    (λ c κs. search needs)
+    (λ c κs. search needs)
     returns-4
-    cast-if5
-    outcome-alone-requires-5
+    (λ c. search needs)
+    (λ c κs. search needs)
     returns-5
-    waited-requires
+    (λ c κs. search needs)
     returns-6)

@@ -1,4 +1,4 @@
--- `message_wait_status::waited` meets its contract: a wait makes no more checks than it asks for, so their number is a byte. Assumes nothing.
+-- `message_wait_status::waited` meets its contract: a wait makes no more checks than it asks for, so their number is a byte.
 use mathlib.Core.Path.{sym, _∙_}
 use native.Mathlib.Omega.{arith}
 use borrow.Author.Tests.{eq-eqb, ne-eqb}
@@ -8,15 +8,6 @@ use Rattle.wait.proofs.Runs.{ending-within}
 use borrow.Author.Needs.{needs}
 use Rattle.message_wait_status.proofs.waited.Statement.{statement}
 use Rattle.message_wait_status.proofs.waited.Tie as tie
-
-ending-check-requires : tie.Need-ending-check-requires
-ending-check-requires c κs = search needs
-
-cast-t6 : tie.Need-cast-t6
-cast-t6 c = search needs
-
-micros-requires : tie.Need-micros-requires
-micros-requires c κs = search needs
 
 returns : tie.Need-returns
 unfolding ranOut checksOf microsOf
@@ -34,9 +25,6 @@ cast-micros c =
     let within = ending-within (c .before .before .before .args .w) (now (c .before .before .before .args .status)) in
     omega (arith, c .before .ending-check .ensures)
 
-micros-requires-2 : tie.Need-micros-requires-2
-micros-requires-2 c κs = search needs
-
 returns-2 : tie.Need-returns-2
 unfolding ranOut checksOf microsOf
 returns-2 c =
@@ -48,11 +36,11 @@ pub waited-spec : {M : Type 1} → statement M
 waited-spec =
     tie.close
     (tie.spec
-    ending-check-requires
-    cast-t6
-    micros-requires
+    (λ c κs. search needs)
+    (λ c. search needs)
+    (λ c κs. search needs)
     returns
     cast-t10
     cast-micros
-    micros-requires-2
+    (λ c κs. search needs)
     returns-2)

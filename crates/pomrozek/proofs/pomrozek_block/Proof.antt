@@ -1,4 +1,4 @@
--- `pomrozek_block` meets its contract: the block call, with the verdict's number and the host as a word. Assumes nothing.
+-- `pomrozek_block` meets its contract: the block call, with the verdict's number and the host as a word.
 use Prim.Native.Nat.{ℕ}
 use mathlib.Core.Path.{_≡_, refl, ap, _∙_}
 use mathlib.Core.List.{List, [], _∷_}
@@ -16,18 +16,6 @@ one [] a n = absurd (let z : _≡_ {A = ℕ} 0 1 = n in omega arith)
 one (x ∷ []) a n = refl
 one (x ∷ y ∷ l) a n = absurd (let z : _≡_ {A = ℕ} (length (x ∷ y ∷ l)) 1 = n in omega arith)
 
-offer-block-requires : tie.Need-offer-block-requires
-offer-block-requires c κs = search needs
-
-cast-words : tie.Need-cast-words
-cast-words c = search needs
-
-slice-write-words : tie.Need-slice-write-words
-slice-write-words c = search needs
-
-verdict-number-requires : tie.Need-verdict-number-requires
-verdict-number-requires c κs = search needs
-
 returns : tie.Need-returns
 returns c =
     let a = c .before .before .before .before .before .before .args in
@@ -41,4 +29,4 @@ returns c =
 pub pomrozek-block-spec : {M : Type 1} → statement M
 pomrozek-block-spec =
     tie.close
-    (tie.spec offer-block-requires cast-words slice-write-words verdict-number-requires returns)
+    (tie.spec (λ c κs. search needs) (λ c. search needs) (λ c. search needs) (λ c κs. search needs) returns)

@@ -1,15 +1,9 @@
--- `pomrozek_board` meets its contract: the board call, with the verdict's number. Assumes nothing.
+-- `pomrozek_board` meets its contract: the board call, with the verdict's number.
 use mathlib.Core.Path.{ap, _∙_}
 use Rattle.rules.specs.Verdict.{verdictNumber}
 use borrow.Author.Needs.{needs}
 use Rattle.pomrozek.proofs.pomrozek_board.Statement.{statement}
 use Rattle.pomrozek.proofs.pomrozek_board.Tie as tie
-
-offer-board-requires : tie.Need-offer-board-requires
-offer-board-requires c κs = search needs
-
-verdict-number-requires : tie.Need-verdict-number-requires
-verdict-number-requires c κs = search needs
 
 returns : tie.Need-returns
 returns c =
@@ -17,4 +11,4 @@ returns c =
     record { verdict = c .verdict-number .ensures ∙ ap verdictNumber (told .verdict); memory = told .memory-after }
 
 pub pomrozek-board-spec : {M : Type 1} → statement M
-pomrozek-board-spec = tie.close (tie.spec offer-board-requires verdict-number-requires returns)
+pomrozek-board-spec = tie.close (tie.spec (λ c κs. search needs) (λ c κs. search needs) returns)

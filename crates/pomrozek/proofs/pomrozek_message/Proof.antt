@@ -1,5 +1,4 @@
--- `pomrozek_message` meets its contract: the message call, with the outcome's number and the rest of the report as words. Assumes
--- nothing.
+-- `pomrozek_message` meets its contract: the message call, with the outcome's number and the rest of the report as words.
 use Prim.Native.Nat.{ℕ, _≤_}
 use mathlib.Core.Path.{_≡_, refl, ap, ap₂, _∙_, subst⁻¹}
 use mathlib.Core.List.{List, [], _∷_}
@@ -23,12 +22,6 @@ four (x ∷ y ∷ z ∷ []) a b d e n = absurd (let q : _≡_ {A = ℕ} 3 4 = n 
 four (x ∷ y ∷ z ∷ w ∷ []) a b d e n = refl
 four (x ∷ y ∷ z ∷ w ∷ v ∷ l) a b d e n = absurd (let q : _≡_ {A = ℕ} (length (x ∷ y ∷ z ∷ w ∷ v ∷ l)) 4 = n in omega arith)
 
-message-requires : tie.Need-message-requires
-message-requires c κs = search needs
-
-slice-write-words : tie.Need-slice-write-words
-slice-write-words c = search needs
-
 slice-write-words-2 : tie.Need-slice-write-words-2
 slice-write-words-2 c = simp length-set (omega arith)
 
@@ -39,17 +32,8 @@ narrow-requires c κs =
 slice-write-words-3 : tie.Need-slice-write-words-3
 slice-write-words-3 c = simp length-set (omega arith)
 
-role-number-requires : tie.Need-role-number-requires
-role-number-requires c κs = search needs
-
 slice-write-words-4 : tie.Need-slice-write-words-4
 slice-write-words-4 c = simp length-set (omega arith)
-
-outcome-number-requires : tie.Need-outcome-number-requires
-outcome-number-requires c κs = search needs
-
-same-length : tie.Need-same-length
-same-length c = search needs
 
 returns : tie.Need-returns
 returns c =
@@ -70,13 +54,13 @@ pub pomrozek-message-spec : {M : Type 1} → statement M
 pomrozek-message-spec =
     tie.close
     (tie.spec
-    message-requires
-    slice-write-words
+    (λ c κs. search needs)
+    (λ c. search needs)
     slice-write-words-2
     narrow-requires
     slice-write-words-3
-    role-number-requires
+    (λ c κs. search needs)
     slice-write-words-4
-    outcome-number-requires
-    same-length
+    (λ c κs. search needs)
+    (λ c. search needs)
     returns)

@@ -1,34 +1,7 @@
--- `record::load_tallies` meets its contract. Assumes nothing.
+-- `record::load_tallies` meets its contract.
 use borrow.Author.Needs.{needs}
 use Rattle.record.proofs.load_tallies.Statement.{statement}
 use Rattle.record.proofs.load_tallies.Tie as tie
-
-mul-at : tie.Need-mul-at
-mul-at c = search needs
-
-add-word-at : tie.Need-add-word-at
-add-word-at c = search needs
-
-word-at-requires : tie.Need-word-at-requires
-word-at-requires c κs = search needs
-
-add-word-at-2 : tie.Need-add-word-at-2
-add-word-at-2 c = search needs
-
-word-at-requires-2 : tie.Need-word-at-requires-2
-word-at-requires-2 c κs = search needs
-
-add-word-at-3 : tie.Need-add-word-at-3
-add-word-at-3 c = search needs
-
-word-at-requires-3 : tie.Need-word-at-requires-3
-word-at-requires-3 c κs = search needs
-
-add-word-at-4 : tie.Need-add-word-at-4
-add-word-at-4 c = search needs
-
-word-at-requires-4 : tie.Need-word-at-requires-4
-word-at-requires-4 c κs = search needs
 
 returns : tie.Need-returns
 returns c =
@@ -43,13 +16,13 @@ pub load-tallies-spec : {M : Type 1} → statement M
 load-tallies-spec =
     tie.close
     (tie.spec
-    mul-at
-    add-word-at
-    word-at-requires
-    add-word-at-2
-    word-at-requires-2
-    add-word-at-3
-    word-at-requires-3
-    add-word-at-4
-    word-at-requires-4
+    (λ c. search needs)
+    (λ c. search needs)
+    (λ c κs. search needs)
+    (λ c. search needs)
+    (λ c κs. search needs)
+    (λ c. search needs)
+    (λ c κs. search needs)
+    (λ c. search needs)
+    (λ c κs. search needs)
     returns)

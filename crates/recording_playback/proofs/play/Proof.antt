@@ -1,4 +1,4 @@
--- `recording_playback::play` meets its contract and ends: a whole field ends within the input, and each turn passes one. Assumes nothing.
+-- `recording_playback::play` meets its contract and ends: a whole field ends within the input, and each turn passes one.
 use Prim.Native.Nat.{ℕ, _-_, _≤_}
 use mathlib.Core.Path.{_≡_, refl, sym, ap, subst, subst⁻¹, _∙_}
 use mathlib.Core.Bool.{true}
@@ -47,24 +47,12 @@ abbrev μ-loop : tie.MeasureT-loop
 loop-holds : tie.Need-loop-holds Inv-loop μ-loop
 loop-holds c = (search needs, search needs, search needs, λ _. refl, start)
 
-next-field-requires : tie.Need-next-field-requires Inv-loop μ-loop
-next-field-requires c κs = search needs
-
-enum-known-progress : tie.Need-enum-known-progress Inv-loop μ-loop
-enum-known-progress c = search needs
-
-same-length : tie.Need-same-length Inv-loop μ-loop
-same-length c = search needs
-
 returns : tie.Need-returns Inv-loop μ-loop
 returns c =
     let l = c .before .before .before .before .before .loop in
     let input = now (c .before .before .before .before .before .before .before .before .args .input) in
     let told = comes-end _ _ _ _ _ _ _ (c .before .progress .given .1) (c .before .before .before .next-field .ensures) in
     (omega (arith, told .place), (reached-same _ _ _ _ _ _ _ _ (l .inv .4) _ _ (told .place) (told .stand), (λ none. nothing-left input (l .output) (l .at) (l .used) (l .inv .2) (l .inv .3) (sym (told .place) ∙ none) (told .none), λ on. ap (λ (k : ℕ). waits (foundAt input k)) (told .place) ∙ told .more on)))
-
-enum-known-tag : tie.Need-enum-known-tag Inv-loop μ-loop
-enum-known-tag c = search needs
 
 add-start : tie.Need-add-start Inv-loop μ-loop
 add-start c =
@@ -102,12 +90,6 @@ part-play-field-start-2 c =
     let comes = comes-field _ _ _ _ _ _ _ _ _ (c .before .before .before .before .before .before .tag .given .1) (c .before .before .before .before .before .before .before .before .next-field .ensures) in
     omega (arith, comes .fits (l .inv .2))
 
-part-play-field-end-2 : tie.Need-part-play-field-end-2 Inv-loop μ-loop
-part-play-field-end-2 c = search needs
-
-play-field-requires : tie.Need-play-field-requires Inv-loop μ-loop
-play-field-requires c κs = search needs
-
 add-used : tie.Need-add-used Inv-loop μ-loop
 add-used c =
     let l = c .before .before .before .before .before .before .before .before .before .before .before .before .before .before .before .loop in
@@ -137,19 +119,19 @@ play-spec =
     Inv-loop
     μ-loop
     loop-holds
-    next-field-requires
-    enum-known-progress
-    same-length
+    (λ c κs. search needs)
+    (λ c. search needs)
+    (λ c. search needs)
     returns
-    enum-known-tag
+    (λ c. search needs)
     add-start
     sub-play-field
     part-play-field-start
     part-play-field-end
     sub-play-field-2
     part-play-field-start-2
-    part-play-field-end-2
-    play-field-requires
+    (λ c. search needs)
+    (λ c κs. search needs)
     add-used
     loop-less
     loop-again)

@@ -1,4 +1,4 @@
--- `recording_playback::play_held` meets its contract: what is not played is moved down. Assumes nothing.
+-- `recording_playback::play_held` meets its contract: what is not played is moved down.
 use Prim.Native.Nat.{ℕ, _≤_, min}
 use mathlib.Core.Path.{_≡_, sym, ap, _∙_}
 use mathlib.Core.List.{List}
@@ -17,20 +17,8 @@ use Rattle.recording_playback.proofs.play_held.Tie as tie
 length-part : (n : ℕ) (l : List ℕ) → length (take n l) ≤ n
 length-part n l = rw length-take (omega arith)
 
-within-requires : tie.Need-within-requires
-within-requires c κs = search needs
-
-slice-reshare-prefix-play : tie.Need-slice-reshare-prefix-play
-slice-reshare-prefix-play c = search needs
-
 slice-aggregate-play : tie.Need-slice-aggregate-play
 slice-aggregate-play c = sym (length-take-le _ _ (search needs))
-
-play-requires : tie.Need-play-requires
-play-requires c κs = search needs
-
-move-down-requires : tie.Need-move-down-requires
-move-down-requires c κs = search needs
 
 returns : tie.Need-returns
 returns c =
@@ -48,9 +36,9 @@ pub play-held-spec : {M : Type 1} → statement M
 play-held-spec =
     tie.close
     (tie.spec
-    within-requires
-    slice-reshare-prefix-play
+    (λ c κs. search needs)
+    (λ c. search needs)
     slice-aggregate-play
-    play-requires
-    move-down-requires
+    (λ c κs. search needs)
+    (λ c κs. search needs)
     returns)

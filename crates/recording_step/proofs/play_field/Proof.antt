@@ -1,4 +1,4 @@
--- `recording_step::play_field` meets its contract: each tag has its call, with the words that stand, and no more. Assumes nothing.
+-- `recording_step::play_field` meets its contract: each tag has its call, with the words that stand, and no more.
 use mathlib.Core.Path.{sym}
 use native.Mathlib.Omega.{arith}
 use lib.Seq.{length-take-le}
@@ -8,23 +8,11 @@ use borrow.Author.Needs.{needs}
 use Rattle.recording_step.proofs.play_field.Statement.{statement}
 use Rattle.recording_step.proofs.play_field.Tie as tie
 
-play-offer-requires : tie.Need-play-offer-requires
-play-offer-requires c κs = search needs
-
-same-length : tie.Need-same-length
-same-length c = search needs
-
 returns : tie.Need-returns
 returns c =
     let a = c .before .before .before .before .before .before .before .before .before .args in
     let played = c .before .before .play-offer .ensures in
     (played .short, offer-field (a .tag) (a .count) (now (a .body)) (now (a .board)) (now (a .access)) (now (a .records)) (now (a .words)) (now (a .line)) _ _ _ _ (c .before .before .before .before .before .before .if1 .taken) played)
-
-take-words-requires : tie.Need-take-words-requires
-take-words-requires c κs = search needs
-
-cast-t23 : tie.Need-cast-t23
-cast-t23 c = search needs
 
 returns-2 : tie.Need-returns-2
 returns-2 c =
@@ -36,12 +24,6 @@ slice-aggregate-message-line : tie.Need-slice-aggregate-message-line
 slice-aggregate-message-line c =
     let a = c .before .before .before .before .before .before .before .before .before .before .args in sym (length-take-le (a .count) (now (a .words)) (search needs))
 
-message-line-requires : tie.Need-message-line-requires
-message-line-requires c κs = search needs
-
-same-length-2 : tie.Need-same-length-2
-same-length-2 c = search needs
-
 returns-3 : tie.Need-returns-3
 returns-3 c =
     let a = c .before .before .before .before .before .before .before .before .before .before .before .before .before .before .args in
@@ -52,13 +34,13 @@ pub play-field-spec : {M : Type 1} → statement M
 play-field-spec =
     tie.close
     (tie.spec
-    play-offer-requires
-    same-length
+    (λ c κs. search needs)
+    (λ c. search needs)
     returns
-    take-words-requires
-    cast-t23
+    (λ c κs. search needs)
+    (λ c. search needs)
     returns-2
     slice-aggregate-message-line
-    message-line-requires
-    same-length-2
+    (λ c κs. search needs)
+    (λ c. search needs)
     returns-3)

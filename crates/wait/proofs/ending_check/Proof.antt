@@ -1,5 +1,5 @@
 -- `wait::ending_check` meets its contract. The loop's invariant: the run is that of the words passed, and the search from here on
--- comes to what it comes to from the start. Assumes nothing.
+-- comes to what it comes to from the start.
 use Prim.Native.Nat.{_≤_, _-_, min}
 use mathlib.Core.Path.{_≡_, refl, sym, ap, _∙_}
 use native.Mathlib.Nat.{sub-zero}
@@ -23,12 +23,6 @@ Inv-loop w status waits matches run₀ checks₀ run checks =
 abbrev μ-loop : tie.MeasureT-loop
 μ-loop w status waits matches run₀ checks₀ run checks = w .waits - checks
 
-cast-waits : tie.Need-cast-waits Inv-loop μ-loop
-cast-waits c = search needs
-
-cast-matches : tie.Need-cast-matches Inv-loop μ-loop
-cast-matches c = search needs
-
 loop-holds : tie.Need-loop-holds Inv-loop μ-loop
 unfolding runAfter endingCheck
 loop-holds c =
@@ -40,15 +34,6 @@ returns c =
     let a = c .before .before .before .before .before .before .args in
     sym (none-left (a .w) (now (a .status)) _ _ (omega arith)) ∙ c .before .before .loop .inv .2
 
-mul-word-matches : tie.Need-mul-word-matches Inv-loop μ-loop
-mul-word-matches c = search needs
-
-shared-slice-read-word-matches : tie.Need-shared-slice-read-word-matches Inv-loop μ-loop
-shared-slice-read-word-matches c = omega arith
-
-word-matches-requires : tie.Need-word-matches-requires Inv-loop μ-loop
-word-matches-requires c κs = search needs
-
 run-after-requires : tie.Need-run-after-requires Inv-loop μ-loop
 run-after-requires c κs =
     let a = c .before .before .before .before .before .before .before .before .args in
@@ -56,18 +41,12 @@ run-after-requires c κs =
     let within = run-within (a .w) (now (a .status)) (l .checks) in
     omega arith
 
-add-checks : tie.Need-add-checks Inv-loop μ-loop
-add-checks c = omega arith
-
 returns-2 : tie.Need-returns-2 Inv-loop μ-loop
 returns-2 c =
     let a = c .before .before .before .before .before .before .before .before .before .before .args in
     let l = c .before .before .before .before .before .before .loop in
     let run = run-step (a .w) (now (a .status)) (l .checks) (l .run) _ _ (c .before .before .word-matches .ensures) (l .inv .1) (c .before .run-after .ensures) in
     add-one (l .checks) ∙ sym (run-ended (a .w) (now (a .status)) (l .checks) _ _ (omega arith) run (c .if2 .taken)) ∙ l .inv .2
-
-loop-less : tie.Need-loop-less Inv-loop μ-loop
-loop-less c = omega arith
 
 loop-again : tie.Need-loop-again Inv-loop μ-loop
 loop-again c =
@@ -91,16 +70,16 @@ ending-check-spec =
     (tie.spec
     Inv-loop
     μ-loop
-    cast-waits
-    cast-matches
+    (λ c. search needs)
+    (λ c. search needs)
     loop-holds
     returns
-    mul-word-matches
-    shared-slice-read-word-matches
-    word-matches-requires
+    (λ c. search needs)
+    (λ c. omega arith)
+    (λ c κs. search needs)
     run-after-requires
-    add-checks
+    (λ c. omega arith)
     returns-2
-    loop-less
+    (λ c. omega arith)
     loop-again
     returns-3)

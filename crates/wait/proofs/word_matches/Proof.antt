@@ -1,4 +1,4 @@
--- `wait::word_matches` meets its contract: a test that fails decides, and the last decides where the others hold. Assumes nothing.
+-- `wait::word_matches` meets its contract: a test that fails decides, and the last decides where the others hold.
 use mathlib.Core.Path.{_≡_, refl}
 use mathlib.Core.Bool.{Bool, true, false, not, _&&_, _||_}
 use lib.Bits.{bitAnd}

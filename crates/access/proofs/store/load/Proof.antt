@@ -1,5 +1,4 @@
 -- `access::load` meets its contract. The loop's invariant: the memory is 1 and the words of the first e parts' entries.
--- Assumes nothing.
 use Prim.Native.Nat.{_≤_, _-_}
 use mathlib.Core.Path.{_≡_, sym, _∙_}
 use mathlib.Core.List.{_∷_}
@@ -24,12 +23,6 @@ returns : tie.Need-returns Inv-loop μ-loop
 returns c =
     let given = c .before .before .args in not-loaded _ (given .access .now) (given .list .now) (c .if1 .taken)
 
-clear-requires : tie.Need-clear-requires Inv-loop μ-loop
-clear-requires c κs = search needs
-
-slice-write-memory : tie.Need-slice-write-memory Inv-loop μ-loop
-slice-write-memory c = omega arith
-
 loop-holds : tie.Need-loop-holds Inv-loop μ-loop
 loop-holds c =
     let given = c .before .before .before .before .before .before .before .args in
@@ -38,39 +31,6 @@ loop-holds c =
       load-first _ (given .list .now) (c .before .before .clear .ensures) whole,
       simp length-set (omega arith),
     )
-
-mul-store-entry : tie.Need-mul-store-entry Inv-loop μ-loop
-mul-store-entry c = omega arith
-
-add-store-entry : tie.Need-add-store-entry Inv-loop μ-loop
-add-store-entry c = omega arith
-
-mul-store-entry-2 : tie.Need-mul-store-entry-2 Inv-loop μ-loop
-mul-store-entry-2 c = omega arith
-
-add-store-entry-2 : tie.Need-add-store-entry-2 Inv-loop μ-loop
-add-store-entry-2 c = omega arith
-
-add-store-entry-3 : tie.Need-add-store-entry-3 Inv-loop μ-loop
-add-store-entry-3 c = omega arith
-
-sub-store-entry : tie.Need-sub-store-entry Inv-loop μ-loop
-sub-store-entry c = omega arith
-
-part-store-entry-start : tie.Need-part-store-entry-start Inv-loop μ-loop
-part-store-entry-start c = omega arith
-
-part-store-entry-end : tie.Need-part-store-entry-end Inv-loop μ-loop
-part-store-entry-end c = omega arith
-
-store-entry-requires : tie.Need-store-entry-requires Inv-loop μ-loop
-store-entry-requires c κs = search needs
-
-add-e : tie.Need-add-e Inv-loop μ-loop
-add-e c = omega arith
-
-loop-less : tie.Need-loop-less Inv-loop μ-loop
-loop-less c = omega arith
 
 loop-again : tie.Need-loop-again Inv-loop μ-loop
 loop-again c =
@@ -96,19 +56,19 @@ load-spec =
     Inv-loop
     μ-loop
     returns
-    clear-requires
-    slice-write-memory
+    (λ c κs. search needs)
+    (λ c. omega arith)
     loop-holds
-    mul-store-entry
-    add-store-entry
-    mul-store-entry-2
-    add-store-entry-2
-    add-store-entry-3
-    sub-store-entry
-    part-store-entry-start
-    part-store-entry-end
-    store-entry-requires
-    add-e
-    loop-less
+    (λ c. omega arith)
+    (λ c. omega arith)
+    (λ c. omega arith)
+    (λ c. omega arith)
+    (λ c. omega arith)
+    (λ c. omega arith)
+    (λ c. omega arith)
+    (λ c. omega arith)
+    (λ c κs. search needs)
+    (λ c. omega arith)
+    (λ c. omega arith)
     loop-again
     returns-2)

@@ -1,4 +1,4 @@
--- `access_hierarchy::fill` meets its contract. The loop's invariant: the table has the supervisors of the entries from e on. Assumes nothing.
+-- `access_hierarchy::fill` meets its contract. The loop's invariant: the table has the supervisors of the entries from e on.
 use Prim.Native.Nat.{_≤_, _-_}
 use Prim.Native.Nat.{ℕ}
 use mathlib.Core.Path.{_≡_, ap, _∙_}
@@ -25,36 +25,6 @@ unfolding partsOf
 loop-holds c =
     (omega arith, c .before .pre ∙ none-filled)
 
-sub-e : tie.Need-sub-e Inv-loop μ-loop
-sub-e c = search needs
-
-mul-byte-at : tie.Need-mul-byte-at Inv-loop μ-loop
-mul-byte-at c = search needs
-
-add-byte-at : tie.Need-add-byte-at Inv-loop μ-loop
-add-byte-at c = search needs
-
-byte-at-requires : tie.Need-byte-at-requires Inv-loop μ-loop
-byte-at-requires c κs = search needs
-
-mul-byte-at-2 : tie.Need-mul-byte-at-2 Inv-loop μ-loop
-mul-byte-at-2 c = search needs
-
-add-byte-at-2 : tie.Need-add-byte-at-2 Inv-loop μ-loop
-add-byte-at-2 c = search needs
-
-byte-at-requires-2 : tie.Need-byte-at-requires-2 Inv-loop μ-loop
-byte-at-requires-2 c κs = search needs
-
-cast-above : tie.Need-cast-above Inv-loop μ-loop
-cast-above c = search needs
-
-element-write-above : tie.Need-element-write-above Inv-loop μ-loop
-element-write-above c = search needs
-
-loop-less : tie.Need-loop-less Inv-loop μ-loop
-loop-less c = search needs
-
 loop-again : tie.Need-loop-again Inv-loop μ-loop
 loop-again c =
     let given = c .before .before .before .before .before .before .args in
@@ -64,9 +34,6 @@ loop-again c =
       ap (λ (table : List ℕ). set table (c .before .before .byte-at .result) (c .byte-at2 .result)) (at .inv .1)
           ∙ fill-used (given .bytes .now) e (at .e) (omega arith) (omega arith) (c .before .before .byte-at .ensures) (c .before .if1 .taken) (c .byte-at2 .ensures),
     )
-
-loop-less-2 : tie.Need-loop-less-2 Inv-loop μ-loop
-loop-less-2 c = search needs
 
 loop-again-2 : tie.Need-loop-again-2 Inv-loop μ-loop
 loop-again-2 c =
@@ -89,17 +56,17 @@ fill-spec =
     Inv-loop
     μ-loop
     loop-holds
-    sub-e
-    mul-byte-at
-    add-byte-at
-    byte-at-requires
-    mul-byte-at-2
-    add-byte-at-2
-    byte-at-requires-2
-    cast-above
-    element-write-above
-    loop-less
+    (λ c. search needs)
+    (λ c. search needs)
+    (λ c. search needs)
+    (λ c κs. search needs)
+    (λ c. search needs)
+    (λ c. search needs)
+    (λ c κs. search needs)
+    (λ c. search needs)
+    (λ c. search needs)
+    (λ c. search needs)
     loop-again
-    loop-less-2
+    (λ c. search needs)
     loop-again-2
     returns)

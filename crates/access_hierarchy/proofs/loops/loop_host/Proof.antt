@@ -1,5 +1,4 @@
--- `access_hierarchy::loop_host` meets its contract. The loop's invariant: none of the hosts passed lies on a loop, so the entries from e on decide. Assumes
--- nothing.
+-- `access_hierarchy::loop_host` meets its contract. The loop's invariant: none of the hosts passed lies on a loop, so the entries from e on decide.
 use Prim.Native.Nat.{_+_, _*_, _≤_, _-_}
 use mathlib.Core.Path.{_≡_, refl, sym, _∙_}
 use native.Mathlib.Omega.{arith}
@@ -17,25 +16,10 @@ Inv-loop bytes above e₀ e =
 abbrev μ-loop : tie.MeasureT-loop
 μ-loop bytes above e₀ e = 32 - e
 
-fill-requires : tie.Need-fill-requires Inv-loop μ-loop
-fill-requires c κs = search needs
-
 loop-holds : tie.Need-loop-holds Inv-loop μ-loop
 unfolding loopHost
 loop-holds c =
     (omega arith, refl)
-
-mul-byte-at : tie.Need-mul-byte-at Inv-loop μ-loop
-mul-byte-at c = search needs
-
-add-byte-at : tie.Need-add-byte-at Inv-loop μ-loop
-add-byte-at c = search needs
-
-byte-at-requires : tie.Need-byte-at-requires Inv-loop μ-loop
-byte-at-requires c κs = search needs
-
-on-loop-requires : tie.Need-on-loop-requires Inv-loop μ-loop
-on-loop-requires c κs = search needs
 
 returns : tie.Need-returns Inv-loop μ-loop
 returns c =
@@ -45,12 +29,6 @@ returns c =
     let at = c .before .before .before .byte-at .ensures in
     let found = on-loop-is bytes (4 + 2 * e) (λ k. turn .before .before .before .shared-slice-known .given k .fits) (turn .before .fill .ensures) at (c .before .on-loop .ensures) in
     sym (turn .loop .inv .1 ∙ host-found bytes e (omega arith) at (sym found ∙ c .if1 .taken))
-
-add-e : tie.Need-add-e Inv-loop μ-loop
-add-e c = search needs
-
-loop-less : tie.Need-loop-less Inv-loop μ-loop
-loop-less c = search needs
 
 loop-again : tie.Need-loop-again Inv-loop μ-loop
 loop-again c =
@@ -74,14 +52,14 @@ loop-host-spec =
     (tie.spec
     Inv-loop
     μ-loop
-    fill-requires
+    (λ c κs. search needs)
     loop-holds
-    mul-byte-at
-    add-byte-at
-    byte-at-requires
-    on-loop-requires
+    (λ c. search needs)
+    (λ c. search needs)
+    (λ c κs. search needs)
+    (λ c κs. search needs)
     returns
-    add-e
-    loop-less
+    (λ c. search needs)
+    (λ c. search needs)
     loop-again
     returns-2)

@@ -1,4 +1,4 @@
--- `access_hierarchy::on_loop` meets its contract. The loop's invariant: what is left to follow decides. Assumes nothing.
+-- `access_hierarchy::on_loop` meets its contract. The loop's invariant: what is left to follow decides.
 use Prim.Native.Nat.{_<_, _≤_, _-_}
 use mathlib.Core.Path.{_≡_, refl, sym, _∙_}
 use native.Mathlib.Omega.{arith}
@@ -15,9 +15,6 @@ Inv-loop above host table x₀ left₀ x left =
 
 abbrev μ-loop : tie.MeasureT-loop
 μ-loop above host table x₀ left₀ x left = left
-
-shared-slice-read-x : tie.Need-shared-slice-read-x Inv-loop μ-loop
-shared-slice-read-x c = search needs
 
 loop-holds : tie.Need-loop-holds Inv-loop μ-loop
 loop-holds c =
@@ -40,12 +37,6 @@ cast-x c = let byte = c .before .before .before .loop .inv .1 in omega arith
 shared-slice-read-x-2 : tie.Need-shared-slice-read-x-2 Inv-loop μ-loop
 shared-slice-read-x-2 c = let byte = c .before .before .before .before .loop .inv .1 in omega arith
 
-sub-left : tie.Need-sub-left Inv-loop μ-loop
-sub-left c = search needs
-
-loop-less : tie.Need-loop-less Inv-loop μ-loop
-loop-less c = search needs
-
 loop-again : tie.Need-loop-again Inv-loop μ-loop
 loop-again c =
     let at = c .before .before .before .before .loop in (
@@ -66,13 +57,13 @@ on-loop-spec =
     (tie.spec
     Inv-loop
     μ-loop
-    shared-slice-read-x
+    (λ c. search needs)
     loop-holds
     returns
     returns-2
     cast-x
     shared-slice-read-x-2
-    sub-left
-    loop-less
+    (λ c. search needs)
+    (λ c. search needs)
     loop-again
     returns-3)

@@ -1,16 +1,10 @@
--- `access_list::check_entry` meets its contract: each return is a line of the table, after those above it. Assumes nothing.
+-- `access_list::check_entry` meets its contract: each return is a line of the table, after those above it.
 use Rattle.rules.specs.Table.{firstOf}
 use Rattle.access_list.specs.Entries.{faultOf}
 use Rattle.access_list.proofs.Faults.{off-board, on-board, master-test}
 use borrow.Author.Needs.{needs}
 use Rattle.access_list.proofs.entry.check_entry.Statement.{statement}
 use Rattle.access_list.proofs.entry.check_entry.Tie as tie
-
-byte-at-requires : tie.Need-byte-at-requires
-byte-at-requires c κs = search needs
-
-row-of-requires : tie.Need-row-of-requires
-row-of-requires c κs = search needs
 
 returns : tie.Need-returns
 unfolding faultOf firstOf
@@ -23,12 +17,6 @@ returns-2 c =
       on-board _ (c .before .before .row-of .ensures) (c .before .before .before .byte-at .ensures) (c .before .if1 .left),
       c .if2 .taken,
     )
-
-u16-at-requires : tie.Need-u16-at-requires
-u16-at-requires c κs = search needs
-
-is-active-requires : tie.Need-is-active-requires
-is-active-requires c κs = search needs
 
 returns-3 : tie.Need-returns-3
 unfolding faultOf firstOf
@@ -54,11 +42,11 @@ pub check-entry-spec : {M : Type 1} → statement M
 check-entry-spec =
     tie.close
     (tie.spec
-    byte-at-requires
-    row-of-requires
+    (λ c κs. search needs)
+    (λ c κs. search needs)
     returns
     returns-2
-    u16-at-requires
-    is-active-requires
+    (λ c κs. search needs)
+    (λ c κs. search needs)
     returns-3
     returns-4)

@@ -1,5 +1,5 @@
 -- `access_list::named_before` meets its contract. The loop's invariant: none of the entries passed has the number, so the answer is
--- that of the entries that are left. Assumes nothing.
+-- that of the entries that are left.
 use Prim.Native.Nat.{_*_, _≤_, _-_}
 use mathlib.Core.Path.{_≡_, refl, sym, _∙_}
 use native.Mathlib.Omega.{arith}
@@ -19,9 +19,6 @@ abbrev μ-loop : tie.MeasureT-loop
 loop-holds : tie.Need-loop-holds Inv-loop μ-loop
 loop-holds c = (omega arith, refl)
 
-sub-i : tie.Need-sub-i Inv-loop μ-loop
-sub-i c = omega arith
-
 mul-byte-at : tie.Need-mul-byte-at Inv-loop μ-loop
 mul-byte-at c =
     let given = c .before .before .before .args in
@@ -34,9 +31,6 @@ add-byte-at c =
     let small : given .width * (c .before .loop .i - 1) ≤ 65025 = place-small (given .width) (c .before .loop .i - 1) (omega arith) (omega arith) in
     omega arith
 
-byte-at-requires : tie.Need-byte-at-requires Inv-loop μ-loop
-byte-at-requires c κs = search needs
-
 returns : tie.Need-returns Inv-loop μ-loop
 returns c =
     let i = c .before .before .before .loop .i in
@@ -44,9 +38,6 @@ returns c =
     sym
     (c .before .before .before .loop .inv .1
     ∙ written-here (given .width) (given .bytes .now) i (i - 1) (given .number) (omega arith) (c .before .byte-at .ensures) (c .if1 .taken))
-
-loop-less : tie.Need-loop-less Inv-loop μ-loop
-loop-less c = omega arith
 
 loop-again : tie.Need-loop-again Inv-loop μ-loop
 loop-again c =
@@ -69,11 +60,11 @@ named-before-spec =
     Inv-loop
     μ-loop
     loop-holds
-    sub-i
+    (λ c. omega arith)
     mul-byte-at
     add-byte-at
-    byte-at-requires
+    (λ c κs. search needs)
     returns
-    loop-less
+    (λ c. omega arith)
     loop-again
     returns-2)

@@ -1,4 +1,4 @@
--- `board::clear` meets its contract. The loop's invariant: the first i bytes are those of a board with nothing listed. Assumes nothing.
+-- `board::clear` meets its contract. The loop's invariant: the first i bytes are those of a board with nothing listed.
 use Prim.Native.Nat.{ℕ, _-_, _≤_}
 use mathlib.Core.Path.{_≡_, refl, ap, _∙_}
 use mathlib.Core.List.{List, _++_}
@@ -19,18 +19,6 @@ abbrev μ-loop : tie.MeasureT-loop
 
 loop-holds : tie.Need-loop-holds Inv-loop μ-loop
 loop-holds c = (omega arith, search needs, search needs, refl)
-
-clear-byte-requires : tie.Need-clear-byte-requires Inv-loop μ-loop
-clear-byte-requires c κs = omega arith
-
-slice-write-memory : tie.Need-slice-write-memory Inv-loop μ-loop
-slice-write-memory c = omega arith
-
-add-i : tie.Need-add-i Inv-loop μ-loop
-add-i c = omega arith
-
-loop-less : tie.Need-loop-less Inv-loop μ-loop
-loop-less c = omega arith
 
 loop-again : tie.Need-loop-again Inv-loop μ-loop
 loop-again c =
@@ -55,9 +43,9 @@ clear-spec =
     Inv-loop
     μ-loop
     loop-holds
-    clear-byte-requires
-    slice-write-memory
-    add-i
-    loop-less
+    (λ c κs. omega arith)
+    (λ c. omega arith)
+    (λ c. omega arith)
+    (λ c. omega arith)
     loop-again
     returns)

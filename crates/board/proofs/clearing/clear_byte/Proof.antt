@@ -1,4 +1,4 @@
--- `board::clear_byte` meets its contract: each return is a table of the memory. Assumes nothing.
+-- `board::clear_byte` meets its contract: each return is a table of the memory.
 use borrow.Author.Needs.{needs}
 use borrow.Author.Tests.{lt-ltb, le-ltb}
 use Rattle.board.specs.Cleared.{clearByte}
@@ -17,12 +17,9 @@ returns-3 : tie.Need-returns-3
 unfolding clearByte
 returns-3 c = rw (le-ltb _ 256 (c .before .before .if1 .left), le-ltb _ 512 (c .before .if2 .left), lt-ltb _ 544 (c .if3 .taken))
 
-cast-result : tie.Need-cast-result
-cast-result c = search needs
-
 returns-4 : tie.Need-returns-4
 unfolding clearByte
 returns-4 c = rw (le-ltb _ 256 (c .before .before .if1 .left), le-ltb _ 512 (c .before .if2 .left), le-ltb _ 544 (c .if3 .left))
 
 pub clear-byte-spec : {M : Type 1} → statement M
-clear-byte-spec = tie.close (tie.spec returns returns-2 returns-3 cast-result returns-4)
+clear-byte-spec = tie.close (tie.spec returns returns-2 returns-3 (λ c. search needs) returns-4)

@@ -1,5 +1,5 @@
 -- `board_description::look_back` meets its contract. The loop's invariant: the cursor is at item k, and what was noted is what the items before
--- it say. Assumes nothing.
+-- it say.
 use Prim.Native.Nat.{ℕ, _-_, _≤_, _<_}
 use mathlib.Core.Path.{_≡_, refl, ap, _∙_}
 use native.Mathlib.Omega.{arith}
@@ -34,17 +34,11 @@ returns c =
     let past : length bytes ≤ cursorAt bytes (l .k) = omega (arith, l .inv .1, c .if1 .taken) in
     l .inv .2 ∙ ap (λ (d : Description). beforeIn d (a .item)) (within-end bytes (l .k) (a .count) (l .inv .0) past)
 
-item-at-requires : tie.Need-item-at-requires Inv-loop μ-loop
-item-at-requires c κs = search needs
-
 note-requires : tie.Need-note-requires Inv-loop μ-loop
 note-requires c κs =
     let a = c .before .before .before .before .before .args in
     let l = c .before .before .before .loop in
     omega (arith, same-passed (now (a .description)) (a .item) (l .k) (l .inv .2))
-
-field-size-requires : tie.Need-field-size-requires Inv-loop μ-loop
-field-size-requires c κs = search needs
 
 add-at : tie.Need-add-at Inv-loop μ-loop
 add-at c =
@@ -52,12 +46,6 @@ add-at c =
     let few = field-few (c .before .before .item-at .result) in
     let room = c .before .before .before .before .before .before .before .good in
     omega (arith, room .0 .1)
-
-add-k : tie.Need-add-k Inv-loop μ-loop
-add-k c = omega arith
-
-loop-less : tie.Need-loop-less Inv-loop μ-loop
-loop-less c = omega arith
 
 loop-again : tie.Need-loop-again Inv-loop μ-loop
 loop-again c =
@@ -86,11 +74,11 @@ look-back-spec =
     μ-loop
     loop-holds
     returns
-    item-at-requires
+    (λ c κs. search needs)
     note-requires
-    field-size-requires
+    (λ c κs. search needs)
     add-at
-    add-k
-    loop-less
+    (λ c. omega arith)
+    (λ c. omega arith)
     loop-again
     returns-2)

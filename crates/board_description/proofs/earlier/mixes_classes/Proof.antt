@@ -1,4 +1,4 @@
--- `board_description::mixes_classes` meets its contract. Assumes nothing.
+-- `board_description::mixes_classes` meets its contract.
 use borrow.Author.Needs.{needs}
 use Rattle.board_description.specs.Compared.{mixesClasses}
 use Rattle.board_description.proofs.earlier.mixes_classes.Statement.{statement}

@@ -1,24 +1,15 @@
--- `board_description::note` meets its contract: an item of the other kind adds to one answer, one of the same kind to all. Assumes nothing.
+-- `board_description::note` meets its contract: an item of the other kind adds to one answer, one of the same kind to all.
 use borrow.Author.Needs.{needs}
 use borrow.Author.Tests.{not-true, not-false}
 use Rattle.board_description.proofs.Noted.{note-other, note-same}
 use Rattle.board_description.proofs.earlier.note.Statement.{statement}
 use Rattle.board_description.proofs.earlier.note.Tie as tie
 
-mixes-classes-requires : tie.Need-mixes-classes-requires
-mixes-classes-requires c κs = search needs
-
-same-kind-requires : tie.Need-same-kind-requires
-same-kind-requires c κs = search needs
-
 returns : tie.Need-returns
 returns c =
     let a = c .before .before .before .before .args in
     note-other (a .item) (a .earlier) (a .before) (c .before .before .before .mixes-classes .ensures) (c .before .same-kind .ensures)
     (not-true _ (c .if1 .taken))
-
-add-t7 : tie.Need-add-t7
-add-t7 c = search needs
 
 returns-2 : tie.Need-returns-2
 returns-2 c =
@@ -28,4 +19,4 @@ returns-2 c =
     (not-false _ (test .if1 .left))
 
 pub note-spec : {M : Type 1} → statement M
-note-spec = tie.close (tie.spec mixes-classes-requires same-kind-requires returns add-t7 returns-2)
+note-spec = tie.close (tie.spec (λ c κs. search needs) (λ c κs. search needs) returns (λ c. search needs) returns-2)

@@ -1,4 +1,4 @@
--- `board_description::same_kind` meets its contract. Assumes nothing.
+-- `board_description::same_kind` meets its contract.
 use mathlib.Core.Path.{sym}
 use borrow.Author.Tests.{eq-eqb, ne-eqb}
 use Rattle.rules.proofs.Tests.{cond-true, cond-false}

@@ -1,4 +1,4 @@
--- `board_description::fault_of` meets its contract: each return is a line of the table, after those above it. Assumes nothing.
+-- `board_description::fault_of` meets its contract: each return is a line of the table, after those above it.
 use Prim.Native.Nat.{ℕ, _≤_, _<_}
 use mathlib.Core.Path.{subst}
 use borrow.Author.Needs.{needs}
@@ -46,9 +46,6 @@ returns-5 c =
       c .if5 .taken,
     )
 
-limit-of-requires : tie.Need-limit-of-requires
-limit-of-requires c κs = search needs
-
 returns-6 : tie.Need-returns-6
 unfolding faultOf firstOf
 returns-6 c =
@@ -84,6 +81,6 @@ fault-of-spec =
     returns-3
     returns-4
     returns-5
-    limit-of-requires
+    (λ c κs. search needs)
     returns-6
     returns-7)

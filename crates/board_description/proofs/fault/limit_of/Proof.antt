@@ -1,4 +1,4 @@
--- `board_description::limit_of` meets its contract. Assumes nothing.
+-- `board_description::limit_of` meets its contract.
 use mathlib.Core.Path.{sym}
 use borrow.Author.Tests.{eq-eqb, ne-eqb}
 use Rattle.rules.proofs.Tests.{cond-true, cond-false}

@@ -1,4 +1,4 @@
--- `board_description::body_size` meets its contract: each return is a line of the table. Assumes nothing.
+-- `board_description::body_size` meets its contract: each return is a line of the table.
 use native.Mathlib.Omega.{arith}
 use borrow.Author.Tests.{eq-eqb, ne-eqb}
 use Rattle.rules.specs.Table.{firstOf}

@@ -1,4 +1,4 @@
--- `board_description::item_at` meets its contract: past the end nothing is left to read. Assumes nothing.
+-- `board_description::item_at` meets its contract: past the end nothing is left to read.
 use borrow.Author.Needs.{needs}
 use mathlib.Core.Path.{ap, _∙_}
 use denote.Ref.{now}
@@ -13,18 +13,6 @@ returns : tie.Need-returns
 unfolding itemIn fieldGood bodySize firstOf noItem
 returns c = rw (drop-of-length-le _ (c .if1 .taken))
 
-sub-item-in : tie.Need-sub-item-in
-sub-item-in c = search needs
-
-part-item-in-start : tie.Need-part-item-in-start
-part-item-in-start c = search needs
-
-part-item-in-end : tie.Need-part-item-in-end
-part-item-in-end c = search needs
-
-item-in-requires : tie.Need-item-in-requires
-item-in-requires c κs = search needs
-
 returns-2 : tie.Need-returns-2
 returns-2 c =
     let a = c .before .before .before .before .args in
@@ -33,4 +21,4 @@ returns-2 c =
 pub item-at-spec : {M : Type 1} → statement M
 item-at-spec =
     tie.close
-    (tie.spec returns sub-item-in part-item-in-start part-item-in-end item-in-requires returns-2)
+    (tie.spec returns (λ c. search needs) (λ c. search needs) (λ c. search needs) (λ c κs. search needs) returns-2)

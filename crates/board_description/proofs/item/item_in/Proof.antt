@@ -1,22 +1,13 @@
--- `board_description::item_in` meets its contract: each return is a part of what a good field is. Assumes nothing.
+-- `board_description::item_in` meets its contract: each return is a part of what a good field is.
 use borrow.Author.Needs.{needs}
 use Rattle.rules.specs.Description.{noItem}
 use Rattle.board_description.proofs.Fields.{none-tag, none-length, none-cut, whole-item}
 use Rattle.board_description.proofs.item.item_in.Statement.{statement}
 use Rattle.board_description.proofs.item.item_in.Tie as tie
 
-byte-at-requires : tie.Need-byte-at-requires
-byte-at-requires c κs = search needs
-
-body-size-requires : tie.Need-body-size-requires
-body-size-requires c κs = search needs
-
 returns : tie.Need-returns
 unfolding noItem
 returns c = none-tag _ (c .before .before .byte-at .ensures) (c .before .body-size .ensures .0) (c .if1 .taken)
-
-u16-at-requires : tie.Need-u16-at-requires
-u16-at-requires c κs = search needs
 
 returns-2 : tie.Need-returns-2
 unfolding noItem
@@ -25,27 +16,12 @@ returns-2 c =
     none-length _ (sized .before .byte-at .ensures) (sized .body-size .ensures .0) (c .before .before .if1 .left)
     (c .before .u16-at .ensures) (c .if2 .taken)
 
-cast-if3 : tie.Need-cast-if3
-cast-if3 c = search needs
-
-add-if3 : tie.Need-add-if3
-add-if3 c = search needs
-
 returns-3 : tie.Need-returns-3
 unfolding noItem
 returns-3 c =
     let sized = c .before .before .before .before in
     none-cut _ (sized .before .byte-at .ensures) (sized .body-size .ensures .0) (c .before .before .before .if1 .left)
     (c .before .before .u16-at .ensures) (c .before .if2 .left) (c .if3 .taken)
-
-byte-at-requires-2 : tie.Need-byte-at-requires-2
-byte-at-requires-2 c κs = search needs
-
-byte-at-requires-3 : tie.Need-byte-at-requires-3
-byte-at-requires-3 c κs = search needs
-
-cluster-in-requires : tie.Need-cluster-in-requires
-cluster-in-requires c κs = search needs
 
 returns-4 : tie.Need-returns-4
 returns-4 c =
@@ -59,15 +35,15 @@ pub item-in-spec : {M : Type 1} → statement M
 item-in-spec =
     tie.close
     (tie.spec
-    byte-at-requires
-    body-size-requires
+    (λ c κs. search needs)
+    (λ c κs. search needs)
     returns
-    u16-at-requires
+    (λ c κs. search needs)
     returns-2
-    cast-if3
-    add-if3
+    (λ c. search needs)
+    (λ c. search needs)
     returns-3
-    byte-at-requires-2
-    byte-at-requires-3
-    cluster-in-requires
+    (λ c κs. search needs)
+    (λ c κs. search needs)
+    (λ c κs. search needs)
     returns-4)

@@ -1,4 +1,4 @@
--- `call_message::admit` meets its contract: each test is a row of the outcome table up to the sender. Assumes nothing.
+-- `call_message::admit` meets its contract: each test is a row of the outcome table up to the sender.
 use mathlib.Core.Path.{sym, _∙_}
 use borrow.Author.Tests.{lt-ltb, le-ltb, not-true, not-false}
 use Rattle.rules.specs.Table.{firstOf}
@@ -16,17 +16,11 @@ returns-2 : tie.Need-returns-2
 unfolding senderTable firstOf
 returns-2 c = rw (le-ltb _ _ (c .before .if1 .left), c .if2 .taken)
 
-is-listed-requires : tie.Need-is-listed-requires
-is-listed-requires c κs = search needs
-
 returns-3 : tie.Need-returns-3
 unfolding senderTable firstOf
 returns-3 c =
     let unlisted = sym (c .before .is-listed .ensures) ∙ not-true _ (c .if3 .taken) in
     rw (le-ltb _ _ (c .before .before .before .if1 .left), c .before .before .if2 .left, unlisted)
-
-sender-wrong-requires : tie.Need-sender-wrong-requires
-sender-wrong-requires c κs = search needs
 
 returns-4 : tie.Need-returns-4
 unfolding senderTable firstOf senderWrong
@@ -48,8 +42,8 @@ admit-spec =
     (tie.spec
     returns
     returns-2
-    is-listed-requires
+    (λ c κs. search needs)
     returns-3
-    sender-wrong-requires
+    (λ c κs. search needs)
     returns-4
     returns-5)

@@ -1,4 +1,4 @@
--- `call_message::sender_wrong` meets its contract: the header's host, then whether the channel host sends. Assumes nothing.
+-- `call_message::sender_wrong` meets its contract: the header's host, then whether the channel host sends.
 use mathlib.Core.Path.{_≡_, refl, sym, _∙_}
 use mathlib.Core.Bool.{Bool, true, false, not, _||_}
 use borrow.Author.Tests.{eq-eqb, ne-eqb}
@@ -20,15 +20,9 @@ alike : (sends same found : Bool) → found ≡ sends → same ≡ true → not 
 alike true same found is t = rw (is, t)
 alike false same found is t = rw is
 
-byte-at-requires : tie.Need-byte-at-requires
-byte-at-requires c κs = search needs
-
 returns : tie.Need-returns
 unfolding senderWrong
 returns c = unlike (activeHost (boardIn (now (c .before .before .before .args .board))) (c .before .before .before .args .channel)) _ (ne-eqb _ _ (λ e. c .if1 .taken (e ∙ sym (c .before .byte-at .ensures))))
-
-is-active-requires : tie.Need-is-active-requires
-is-active-requires c κs = search needs
 
 returns-2 : tie.Need-returns-2
 unfolding senderWrong
@@ -36,4 +30,4 @@ returns-2 c =
     alike _ _ (c .is-active .result) (c .is-active .ensures) (eq-eqb _ _ (c .before .if1 .left ∙ c .before .before .byte-at .ensures))
 
 pub sender-wrong-spec : {M : Type 1} → statement M
-sender-wrong-spec = tie.close (tie.spec byte-at-requires returns is-active-requires returns-2)
+sender-wrong-spec = tie.close (tie.spec (λ c κs. search needs) returns (λ c κs. search needs) returns-2)

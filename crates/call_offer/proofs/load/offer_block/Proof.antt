@@ -1,4 +1,4 @@
--- `call_offer::offer_block` meets its contract: a refused block leaves the memory, of an accepted one the list is loaded. Assumes nothing.
+-- `call_offer::offer_block` meets its contract: a refused block leaves the memory, of an accepted one the list is loaded.
 use mathlib.Core.Path.{_∙_}
 use mathlib.Core.Bool.{Bool}
 use native.Mathlib.Omega.{arith}
@@ -13,15 +13,6 @@ use Rattle.call_offer.proofs.Verdicts.{refused, taken, verdict-read}
 use borrow.Author.Needs.{needs}
 use Rattle.call_offer.proofs.load.offer_block.Statement.{statement}
 use Rattle.call_offer.proofs.load.offer_block.Tie as tie
-
-is-listed-requires : tie.Need-is-listed-requires
-is-listed-requires c κs = search needs
-
-judge-requires : tie.Need-judge-requires
-judge-requires c κs = search needs
-
-enum-told : tie.Need-enum-told
-enum-told c = search needs
 
 returns : tie.Need-returns
 unfolding accessAfterBlock
@@ -39,19 +30,10 @@ returns c =
       ),
     )
 
-sub-load : tie.Need-sub-load
-sub-load c = search needs
-
-part-load-start : tie.Need-part-load-start
-part-load-start c = search needs
-
 part-load-end : tie.Need-part-load-end
 part-load-end c =
     let given = c .before .before .before .before .before .before .before .before .args in
     let size = accepted-size _ _ (given .major) (given .minor) (given .block .now) (c .before .before .before .judge .ensures .0) (c .before .enum-told .given .1) in omega arith
-
-load-requires : tie.Need-load-requires
-load-requires c κs = search needs
 
 returns-2 : tie.Need-returns-2
 unfolding accessAfterBlock
@@ -77,12 +59,12 @@ pub offer-block-spec : {M : Type 1} → statement M
 offer-block-spec =
     tie.close
     (tie.spec
-    is-listed-requires
-    judge-requires
-    enum-told
+    (λ c κs. search needs)
+    (λ c κs. search needs)
+    (λ c. search needs)
     returns
-    sub-load
-    part-load-start
+    (λ c. search needs)
+    (λ c. search needs)
     part-load-end
-    load-requires
+    (λ c κs. search needs)
     returns-2)

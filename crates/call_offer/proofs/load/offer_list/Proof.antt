@@ -1,4 +1,4 @@
--- `call_offer::offer_list` meets its contract: a refused list leaves the memory, an accepted one is loaded. Assumes nothing.
+-- `call_offer::offer_list` meets its contract: a refused list leaves the memory, an accepted one is loaded.
 use mathlib.Core.Path.{sym, _∙_}
 use mathlib.Core.Bool.{Bool}
 use Rattle.rules.specs.AccessList.{verdictOf}
@@ -12,15 +12,6 @@ use borrow.Author.Needs.{needs}
 use Rattle.call_offer.proofs.load.offer_list.Statement.{statement}
 use Rattle.call_offer.proofs.load.offer_list.Tie as tie
 
-is-listed-requires : tie.Need-is-listed-requires
-is-listed-requires c κs = search needs
-
-judge-requires : tie.Need-judge-requires
-judge-requires c κs = search needs
-
-enum-told : tie.Need-enum-told
-enum-told c = search needs
-
 returns : tie.Need-returns
 unfolding accessAfter
 returns c =
@@ -28,9 +19,6 @@ returns c =
     let m = given .access .now in
     let told = verdict-read (λ (x : Bool). verdictOf (boardIn (given .board .now)) x (given .list .now)) m (c .before .judge .ensures) (c .before .before .is-listed .ensures) in
     (told, refused _ m (given .list .now) told (λ good. no-fault (rw good at (c .match .keys2))))
-
-load-requires : tie.Need-load-requires
-load-requires c κs = search needs
 
 returns-2 : tie.Need-returns-2
 unfolding accessAfter
@@ -50,4 +38,4 @@ returns-2 c =
 pub offer-list-spec : {M : Type 1} → statement M
 offer-list-spec =
     tie.close
-    (tie.spec is-listed-requires judge-requires enum-told returns load-requires returns-2)
+    (tie.spec (λ c κs. search needs) (λ c κs. search needs) (λ c. search needs) returns (λ c κs. search needs) returns-2)

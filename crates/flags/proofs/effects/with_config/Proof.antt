@@ -1,4 +1,4 @@
--- `flags::with_config` meets its contract: the test of bit 28 says which vector. Assumes nothing.
+-- `flags::with_config` meets its contract: the test of bit 28 says which vector.
 use mathlib.Core.Path.{_≡_, sym, ap, _∙_}
 use mathlib.Core.Bool.{true, false}
 use denote.Ref.{now}
@@ -8,18 +8,6 @@ use borrow.Author.Needs.{needs}
 use Rattle.flags.proofs.effects.with_config.Statement.{statement}
 use Rattle.flags.proofs.effects.with_config.Tie as tie
 
-u32-at-requires : tie.Need-u32-at-requires
-u32-at-requires c κs = search needs
-
-u32-at-requires-2 : tie.Need-u32-at-requires-2
-u32-at-requires-2 c κs = search needs
-
-new-word-requires : tie.Need-new-word-requires
-new-word-requires c κs = search needs
-
-keeps-vector-requires : tie.Need-keeps-vector-requires
-keeps-vector-requires c κs = search needs
-
 returns : tie.Need-returns
 returns c =
     let clear = c .before .before .before .before .u32-at2 .ensures in
@@ -27,12 +15,6 @@ returns c =
     ap keepsVector (sym clear) ∙ sym (c .before .keeps-vector .ensures) ∙ c .if1 .taken
     in
     rw (c .before .before .before .new-word .ensures, c .before .before .before .before .before .u32-at .ensures, clear, kept)
-
-u32-at-requires-3 : tie.Need-u32-at-requires-3
-u32-at-requires-3 c κs = search needs
-
-u32-at-requires-4 : tie.Need-u32-at-requires-4
-u32-at-requires-4 c κs = search needs
 
 returns-2 : tie.Need-returns-2
 returns-2 c =
@@ -53,11 +35,11 @@ pub with-config-spec : {M : Type 1} → statement M
 with-config-spec =
     tie.close
     (tie.spec
-    u32-at-requires
-    u32-at-requires-2
-    new-word-requires
-    keeps-vector-requires
+    (λ c κs. search needs)
+    (λ c κs. search needs)
+    (λ c κs. search needs)
+    (λ c κs. search needs)
     returns
-    u32-at-requires-3
-    u32-at-requires-4
+    (λ c κs. search needs)
+    (λ c κs. search needs)
     returns-2)

@@ -1,4 +1,4 @@
--- `flags::clear_mask` meets its contract. Assumes nothing.
+-- `flags::clear_mask` meets its contract.
 use borrow.Author.Tests.{eq-eqb, ne-eqb}
 use Rattle.flags.proofs.operands.clear_mask.Statement.{statement}
 use Rattle.flags.proofs.operands.clear_mask.Tie as tie

@@ -1,25 +1,7 @@
--- `flags::config_good` meets its contract. Assumes nothing.
+-- `flags::config_good` meets its contract.
 use borrow.Author.Needs.{needs}
 use Rattle.flags.proofs.operands.config_good.Statement.{statement}
 use Rattle.flags.proofs.operands.config_good.Tie as tie
-
-u32-at-requires : tie.Need-u32-at-requires
-u32-at-requires c κs = search needs
-
-u32-at-requires-2 : tie.Need-u32-at-requires-2
-u32-at-requires-2 c κs = search needs
-
-u32-at-requires-3 : tie.Need-u32-at-requires-3
-u32-at-requires-3 c κs = search needs
-
-flags-good-requires : tie.Need-flags-good-requires
-flags-good-requires c κs = search needs
-
-keeps-vector-requires : tie.Need-keeps-vector-requires
-keeps-vector-requires c κs = search needs
-
-vector-good-requires : tie.Need-vector-good-requires
-vector-good-requires c κs = search needs
 
 returns : tie.Need-returns
 returns c =
@@ -36,10 +18,10 @@ pub config-good-spec : {M : Type 1} → statement M
 config-good-spec =
     tie.close
     (tie.spec
-    u32-at-requires
-    u32-at-requires-2
-    u32-at-requires-3
-    flags-good-requires
-    keeps-vector-requires
-    vector-good-requires
+    (λ c κs. search needs)
+    (λ c κs. search needs)
+    (λ c κs. search needs)
+    (λ c κs. search needs)
+    (λ c κs. search needs)
+    (λ c κs. search needs)
     returns)

@@ -1,4 +1,4 @@
--- `flags::wait_good` meets its contract: the rule's tests of the two numbers by the code's one. Assumes nothing.
+-- `flags::wait_good` meets its contract: the rule's tests of the two numbers by the code's one.
 use Prim.Native.Nat.{ℕ}
 use mathlib.Core.Path.{_≡_, sym, ap, _∙_}
 use mathlib.Core.Bool.{Bool, true, false, not, _&&_, _||_}

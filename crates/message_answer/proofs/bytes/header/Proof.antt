@@ -1,19 +1,7 @@
--- `message_answer::header` meets its contract. Assumes nothing.
+-- `message_answer::header` meets its contract.
 use borrow.Author.Needs.{needs}
 use Rattle.message_answer.proofs.bytes.header.Statement.{statement}
 use Rattle.message_answer.proofs.bytes.header.Tie as tie
-
-byte-at-requires : tie.Need-byte-at-requires
-byte-at-requires c κs = search needs
-
-byte-at-requires-2 : tie.Need-byte-at-requires-2
-byte-at-requires-2 c κs = search needs
-
-byte-at-requires-3 : tie.Need-byte-at-requires-3
-byte-at-requires-3 c κs = search needs
-
-byte-at-requires-4 : tie.Need-byte-at-requires-4
-byte-at-requires-4 c κs = search needs
 
 returns : tie.Need-returns
 returns c =
@@ -39,9 +27,9 @@ pub header-spec : {M : Type 1} → statement M
 header-spec =
     tie.close
     (tie.spec
-    byte-at-requires
-    byte-at-requires-2
-    byte-at-requires-3
-    byte-at-requires-4
+    (λ c κs. search needs)
+    (λ c κs. search needs)
+    (λ c κs. search needs)
+    (λ c κs. search needs)
     returns
     returns-2)

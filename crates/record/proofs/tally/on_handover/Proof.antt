@@ -1,4 +1,4 @@
--- `record::on_handover` meets its contract: a handover or nothing, by a law for each. Assumes nothing.
+-- `record::on_handover` meets its contract: a handover or nothing, by a law for each.
 use mathlib.Core.Path.{_∙_}
 use denote.Ref.{now}
 use Rattle.rules.specs.declared.Kind.the-variants.{Handover}
@@ -9,27 +9,6 @@ use Rattle.record.proofs.tally.on_handover.Tie as tie
 
 returns : tie.Need-returns
 returns c = none-there Handover _ _ _ (c .if1 .taken)
-
-mul-at : tie.Need-mul-at
-mul-at c = search needs
-
-mul-before : tie.Need-mul-before
-mul-before c = search needs
-
-element-copy-out-before : tie.Need-element-copy-out-before
-element-copy-out-before c = search needs
-
-mul-records : tie.Need-mul-records
-mul-records c = search needs
-
-element-write-records : tie.Need-element-write-records
-element-write-records c = search needs
-
-add-count : tie.Need-add-count
-add-count c = search needs
-
-count-requires : tie.Need-count-requires
-count-requires c κs = search needs
 
 returns-2 : tie.Need-returns-2
 returns-2 c =
@@ -46,12 +25,12 @@ on-handover-spec =
     tie.close
     (tie.spec
     returns
-    mul-at
-    mul-before
-    element-copy-out-before
-    mul-records
-    element-write-records
-    add-count
-    count-requires
+    (λ c. search needs)
+    (λ c. search needs)
+    (λ c. search needs)
+    (λ c. search needs)
+    (λ c. search needs)
+    (λ c. search needs)
+    (λ c κs. search needs)
     returns-2
     returns-3)

@@ -1,4 +1,4 @@
--- `recording_fields::find` meets its contract: each test is a line of `foundAt`. Assumes nothing.
+-- `recording_fields::find` meets its contract: each test is a line of `foundAt`.
 use Prim.Native.Nat.{ℕ, _+_, _*_}
 use mathlib.Core.Path.{_≡_, sym, ap, ap₂, _∙_}
 use borrow.Author.Tests.{not-true, not-false}
@@ -14,15 +14,6 @@ use Rattle.recording_fields.proofs.field.find.Tie as tie
 returns : tie.Need-returns
 returns c = finds-nothing (now (c .before .before .args .buffer)) (c .before .before .args .at) (c .if1 .taken)
 
-sub-left : tie.Need-sub-left
-sub-left c = search needs
-
-shared-slice-read-tag : tie.Need-shared-slice-read-tag
-shared-slice-read-tag c = search needs
-
-tag-good-requires : tie.Need-tag-good-requires
-tag-good-requires c κs = search needs
-
 returns-2 : tie.Need-returns-2
 returns-2 c =
     let a = c .before .before .before .before .before .args in
@@ -34,33 +25,6 @@ returns-3 c =
     let good = sym (c .before .before .tag-good .ensures) ∙ not-false _ (c .before .if2 .left) in
     finds-head (now (a .buffer)) (a .at) (c .before .before .before .before .if1 .left) good (c .if3 .taken)
 
-add-place : tie.Need-add-place
-add-place c = search needs
-
-shared-slice-read-wide : tie.Need-shared-slice-read-wide
-shared-slice-read-wide c = search needs
-
-wide-requires : tie.Need-wide-requires
-wide-requires c κs = search needs
-
-add-wide : tie.Need-add-wide
-add-wide c = search needs
-
-shared-slice-read-wide-2 : tie.Need-shared-slice-read-wide-2
-shared-slice-read-wide-2 c = search needs
-
-wide-requires-2 : tie.Need-wide-requires-2
-wide-requires-2 c κs = search needs
-
-mul-length : tie.Need-mul-length
-mul-length c = search needs
-
-add-length : tie.Need-add-length
-add-length c = search needs
-
-length-good-requires : tie.Need-length-good-requires
-length-good-requires c κs = search needs
-
 returns-4 : tie.Need-returns-4
 returns-4 c =
     let a = c .before .before .before .before .before .before .before .before .before .before .before .before .args in
@@ -70,9 +34,6 @@ returns-4 c =
     in
     let bad = ap (lengthGood (byteAt (now (a .buffer)) (a .at))) (sym size) ∙ sym (c .before .length-good .ensures) ∙ not-true _ (c .if4 .taken) in
     finds-bad-length (now (a .buffer)) (a .at) (c .before .before .before .before .before .before .before .before .before .before .if1 .left) good (c .before .before .before .before .before .before .if3 .left) bad
-
-cast-if5 : tie.Need-cast-if5
-cast-if5 c = search needs
 
 returns-5 : tie.Need-returns-5
 returns-5 c =
@@ -100,21 +61,21 @@ find-spec =
     tie.close
     (tie.spec
     returns
-    sub-left
-    shared-slice-read-tag
-    tag-good-requires
+    (λ c. search needs)
+    (λ c. search needs)
+    (λ c κs. search needs)
     returns-2
     returns-3
-    add-place
-    shared-slice-read-wide
-    wide-requires
-    add-wide
-    shared-slice-read-wide-2
-    wide-requires-2
-    mul-length
-    add-length
-    length-good-requires
+    (λ c. search needs)
+    (λ c. search needs)
+    (λ c κs. search needs)
+    (λ c. search needs)
+    (λ c. search needs)
+    (λ c κs. search needs)
+    (λ c. search needs)
+    (λ c. search needs)
+    (λ c κs. search needs)
     returns-4
-    cast-if5
+    (λ c. search needs)
     returns-5
     returns-6)

@@ -1,4 +1,4 @@
--- `recording_fields::length_good` meets its contract: messages and status words first, and the offers have one length. Assumes nothing.
+-- `recording_fields::length_good` meets its contract: messages and status words first, and the offers have one length.
 use mathlib.Core.Path.{_≡_, refl, sym}
 use mathlib.Core.Bool.{Bool, true, false, _&&_, _||_}
 use mathlib.Core.List.{[], _∷_}

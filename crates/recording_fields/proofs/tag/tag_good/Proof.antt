@@ -1,4 +1,4 @@
--- `recording_fields::tag_good` meets its contract. Assumes nothing.
+-- `recording_fields::tag_good` meets its contract.
 use mathlib.Core.Path.{refl}
 use Rattle.recording_fields.proofs.tag.tag_good.Statement.{statement}
 use Rattle.recording_fields.proofs.tag.tag_good.Tie as tie

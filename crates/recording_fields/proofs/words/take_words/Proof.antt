@@ -1,4 +1,4 @@
--- `recording_fields::take_words` meets its contract. The loop's invariant: the first i words are laid. Assumes nothing.
+-- `recording_fields::take_words` meets its contract. The loop's invariant: the first i words are laid.
 use Prim.Native.Nat.{ℕ, _-_, _/_, _≤_}
 use mathlib.Core.Path.{_≡_, refl, sym, ap, _∙_}
 use mathlib.Core.List.{List, _++_}
@@ -30,45 +30,6 @@ returns c =
       size,
       (omega arith, l .inv .2 ∙ all-words (now (a .words)) (taken body) (l .i) size),
     )
-
-mul-at : tie.Need-mul-at Inv-loop μ-loop
-mul-at c = omega arith
-
-shared-slice-read-joined : tie.Need-shared-slice-read-joined Inv-loop μ-loop
-shared-slice-read-joined c = omega arith
-
-add-joined : tie.Need-add-joined Inv-loop μ-loop
-add-joined c = omega arith
-
-shared-slice-read-joined-2 : tie.Need-shared-slice-read-joined-2 Inv-loop μ-loop
-shared-slice-read-joined-2 c = omega arith
-
-add-joined-2 : tie.Need-add-joined-2 Inv-loop μ-loop
-add-joined-2 c = omega arith
-
-shared-slice-read-joined-3 : tie.Need-shared-slice-read-joined-3 Inv-loop μ-loop
-shared-slice-read-joined-3 c = omega arith
-
-add-joined-3 : tie.Need-add-joined-3 Inv-loop μ-loop
-add-joined-3 c = omega arith
-
-shared-slice-read-joined-4 : tie.Need-shared-slice-read-joined-4 Inv-loop μ-loop
-shared-slice-read-joined-4 c = omega arith
-
-joined-requires : tie.Need-joined-requires Inv-loop μ-loop
-joined-requires c κs = search needs
-
-mul-memory : tie.Need-mul-memory Inv-loop μ-loop
-mul-memory c = omega arith
-
-slice-write-memory : tie.Need-slice-write-memory Inv-loop μ-loop
-slice-write-memory c = omega arith
-
-add-i : tie.Need-add-i Inv-loop μ-loop
-add-i c = omega arith
-
-loop-less : tie.Need-loop-less Inv-loop μ-loop
-loop-less c = omega arith
 
 loop-again : tie.Need-loop-again Inv-loop μ-loop
 loop-again c =
@@ -107,18 +68,18 @@ take-words-spec =
     μ-loop
     loop-holds
     returns
-    mul-at
-    shared-slice-read-joined
-    add-joined
-    shared-slice-read-joined-2
-    add-joined-2
-    shared-slice-read-joined-3
-    add-joined-3
-    shared-slice-read-joined-4
-    joined-requires
-    mul-memory
-    slice-write-memory
-    add-i
-    loop-less
+    (λ c. omega arith)
+    (λ c. omega arith)
+    (λ c. omega arith)
+    (λ c. omega arith)
+    (λ c. omega arith)
+    (λ c. omega arith)
+    (λ c. omega arith)
+    (λ c. omega arith)
+    (λ c κs. search needs)
+    (λ c. omega arith)
+    (λ c. omega arith)
+    (λ c. omega arith)
+    (λ c. omega arith)
     loop-again
     returns-2)

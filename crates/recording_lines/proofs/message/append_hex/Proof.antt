@@ -1,4 +1,4 @@
--- `recording_lines::append_hex` meets its contract. The loop's invariant: the digits of the first i bytes are laid. Assumes nothing.
+-- `recording_lines::append_hex` meets its contract. The loop's invariant: the digits of the first i bytes are laid.
 use Prim.Native.Nat.{ℕ, _+_, _*_, _/_, _%_, _≤_, _-_}
 use mathlib.Core.Path.{_≡_, refl, sym, ap, ap₂, _∙_}
 use mathlib.Core.List.{List}
@@ -26,44 +26,8 @@ loop-holds : tie.Need-loop-holds Inv-loop μ-loop
 unfolding hexOf
 loop-holds c = (omega arith, laid-none (now (c .before .before .args .line)) (c .before .before .args .at), refl)
 
-shared-slice-read-hex-digit : tie.Need-shared-slice-read-hex-digit Inv-loop μ-loop
-shared-slice-read-hex-digit c = omega arith
-
-hex-digit-requires : tie.Need-hex-digit-requires Inv-loop μ-loop
-hex-digit-requires c κs = search needs
-
-mul-line : tie.Need-mul-line Inv-loop μ-loop
-mul-line c = omega arith
-
-add-line : tie.Need-add-line Inv-loop μ-loop
-add-line c = omega arith
-
-slice-write-line : tie.Need-slice-write-line Inv-loop μ-loop
-slice-write-line c = omega arith
-
-shared-slice-read-hex-digit-2 : tie.Need-shared-slice-read-hex-digit-2 Inv-loop μ-loop
-shared-slice-read-hex-digit-2 c = omega arith
-
-hex-digit-requires-2 : tie.Need-hex-digit-requires-2 Inv-loop μ-loop
-hex-digit-requires-2 c κs = search needs
-
-mul-line-2 : tie.Need-mul-line-2 Inv-loop μ-loop
-mul-line-2 c = omega arith
-
-add-line-2 : tie.Need-add-line-2 Inv-loop μ-loop
-add-line-2 c = omega arith
-
-add-line-3 : tie.Need-add-line-3 Inv-loop μ-loop
-add-line-3 c = omega arith
-
 slice-write-line-2 : tie.Need-slice-write-line-2 Inv-loop μ-loop
 slice-write-line-2 c = simp length-set (omega arith)
-
-add-i : tie.Need-add-i Inv-loop μ-loop
-add-i c = omega arith
-
-loop-less : tie.Need-loop-less Inv-loop μ-loop
-loop-less c = omega arith
 
 loop-again : tie.Need-loop-again Inv-loop μ-loop
 loop-again c =
@@ -79,12 +43,6 @@ loop-again c =
           ∙ ap (λ (n : ℕ). laid d (a .at) (hexOf (take n s))) (sym (add-one (l .i))),
       simp length-set (l .inv .2),
     )
-
-mul-result : tie.Need-mul-result Inv-loop μ-loop
-mul-result c = omega arith
-
-add-result : tie.Need-add-result Inv-loop μ-loop
-add-result c = omega arith
 
 same-length : tie.Need-same-length Inv-loop μ-loop
 same-length c = c .before .loop .inv .2
@@ -107,21 +65,21 @@ append-hex-spec =
     Inv-loop
     μ-loop
     loop-holds
-    shared-slice-read-hex-digit
-    hex-digit-requires
-    mul-line
-    add-line
-    slice-write-line
-    shared-slice-read-hex-digit-2
-    hex-digit-requires-2
-    mul-line-2
-    add-line-2
-    add-line-3
+    (λ c. omega arith)
+    (λ c κs. search needs)
+    (λ c. omega arith)
+    (λ c. omega arith)
+    (λ c. omega arith)
+    (λ c. omega arith)
+    (λ c κs. search needs)
+    (λ c. omega arith)
+    (λ c. omega arith)
+    (λ c. omega arith)
     slice-write-line-2
-    add-i
-    loop-less
+    (λ c. omega arith)
+    (λ c. omega arith)
     loop-again
-    mul-result
-    add-result
+    (λ c. omega arith)
+    (λ c. omega arith)
     same-length
     returns)

@@ -1,5 +1,5 @@
 -- `recording_lines::lay_digits` meets its contract. The loop's invariant: the digits that are left, laid over the line, make it the one that is
--- promised. Assumes nothing.
+-- promised.
 use Prim.Native.Nat.{ℕ, _+_, _≤_}
 use mathlib.Core.Path.{_≡_, refl, ap, _∙_}
 use native.Mathlib.Omega.{arith}
@@ -29,24 +29,6 @@ loop-holds c =
       ap (laid (now (a .line)) (a .at)) (ap (λ (k : ℕ). lastDigits k (a .number)) (c .pre .0) ∙ last-all 10 (a .number)),
     )
 
-sub-i : tie.Need-sub-i Inv-loop μ-loop
-sub-i c = omega arith
-
-cast-line : tie.Need-cast-line Inv-loop μ-loop
-cast-line c = omega arith
-
-add-line : tie.Need-add-line Inv-loop μ-loop
-add-line c = omega arith
-
-add-line-2 : tie.Need-add-line-2 Inv-loop μ-loop
-add-line-2 c = omega arith
-
-slice-write-line : tie.Need-slice-write-line Inv-loop μ-loop
-slice-write-line c = omega arith
-
-loop-less : tie.Need-loop-less Inv-loop μ-loop
-loop-less c = omega arith
-
 loop-again : tie.Need-loop-again Inv-loop μ-loop
 loop-again c =
     let l = c .before .loop in (
@@ -73,12 +55,12 @@ lay-digits-spec =
     Inv-loop
     μ-loop
     loop-holds
-    sub-i
-    cast-line
-    add-line
-    add-line-2
-    slice-write-line
-    loop-less
+    (λ c. omega arith)
+    (λ c. omega arith)
+    (λ c. omega arith)
+    (λ c. omega arith)
+    (λ c. omega arith)
+    (λ c. omega arith)
     loop-again
     same-length
     returns)

@@ -1,4 +1,4 @@
--- `recording_lines::print_message` meets its contract: the line, or nothing. Assumes nothing.
+-- `recording_lines::print_message` meets its contract: the line, or nothing.
 use mathlib.Core.Path.{ap, ap₂}
 use mathlib.Core.Bool.{Bool, _&&_}
 use lib.ListN.{length}
@@ -24,9 +24,6 @@ returns-2 c =
 write-line-requires : tie.Need-write-line-requires
 write-line-requires c κs = (search needs, search needs)
 
-same-length : tie.Need-same-length
-same-length c = search needs
-
 returns-3 : tie.Need-returns-3
 unfolding messageLine
 returns-3 c =
@@ -36,4 +33,4 @@ returns-3 c =
     all-printed (now (a .line)) _ _ _ _ all (wrote .0) (wrote .1 .1) (wrote .1 .0)
 
 pub print-message-spec : {M : Type 1} → statement M
-print-message-spec = tie.close (tie.spec returns returns-2 write-line-requires same-length returns-3)
+print-message-spec = tie.close (tie.spec returns returns-2 write-line-requires (λ c. search needs) returns-3)

@@ -1,4 +1,4 @@
--- `recording_lines::write_line` meets its contract: five pieces, each laid behind the last, and short enough for the line. Assumes nothing.
+-- `recording_lines::write_line` meets its contract: five pieces, each laid behind the last, and short enough for the line.
 use Prim.Native.Nat.{ℕ, _+_}
 use mathlib.Core.Path.{_≡_, refl, ap, _∙_}
 use mathlib.Core.Bool.{Bool, true, false}
@@ -25,18 +25,6 @@ name-three n = go (eqb n 0) (ltb n 100) refl refl
     go true y p q = rw p
     go false true p q = rw (p, q)
     go false false p q = rw (p, q)
-
-outcome-name-requires : tie.Need-outcome-name-requires
-outcome-name-requires c κs = search needs
-
-slice-aggregate-append : tie.Need-slice-aggregate-append
-slice-aggregate-append c = search needs
-
-append-requires : tie.Need-append-requires
-append-requires c κs = search needs
-
-append-number-requires : tie.Need-append-number-requires
-append-number-requires c κs = search needs
 
 append-number-requires-2 : tie.Need-append-number-requires-2
 append-number-requires-2 c κs = omega (
@@ -65,9 +53,6 @@ append-answer-requires c κs = omega (
   name-three (outcomeNumber (c .before .before .before .before .before .before .before .before .before .before .before .before .before .before .before .before .before .args .outcome)),
 )
 
-slice-aggregate-append-2 : tie.Need-slice-aggregate-append-2
-slice-aggregate-append-2 c = search needs
-
 append-requires-2 : tie.Need-append-requires-2
 append-requires-2 c κs = omega (
   arith,
@@ -85,9 +70,6 @@ append-requires-2 c κs = omega (
   ap length (c .before .before .before .before .before .before .before .before .before .before .before .before .before .before .before .before .before .before .before .outcome-name .ensures),
   name-three (outcomeNumber (c .before .before .before .before .before .before .before .before .before .before .before .before .before .before .before .before .before .before .before .before .before .before .args .outcome)),
 )
-
-same-length : tie.Need-same-length
-same-length c = search needs
 
 returns : tie.Need-returns
 returns c =
@@ -118,13 +100,13 @@ pub write-line-spec : {M : Type 1} → statement M
 write-line-spec =
     tie.close
     (tie.spec
-    outcome-name-requires
-    slice-aggregate-append
-    append-requires
-    append-number-requires
+    (λ c κs. search needs)
+    (λ c. search needs)
+    (λ c κs. search needs)
+    (λ c κs. search needs)
     append-number-requires-2
     append-answer-requires
-    slice-aggregate-append-2
+    (λ c. search needs)
     append-requires-2
-    same-length
+    (λ c. search needs)
     returns)

@@ -1,4 +1,4 @@
--- `recording_lines::print_offer` meets its contract: the word, and the verdict's text behind it, or nothing. Assumes nothing.
+-- `recording_lines::print_offer` meets its contract: the word, and the verdict's text behind it, or nothing.
 use Prim.Native.Nat.{_≤_}
 use mathlib.Core.Path.{_≡_, sym}
 use native.Mathlib.Omega.{arith}
@@ -21,15 +21,6 @@ returns : tie.Need-returns
 returns c =
     nothing-printed _ _ (hasRoom (now (c .before .before .before .args .line))) (lt-leb 96 _ (c .if1 .taken))
 
-verdict-text-requires : tie.Need-verdict-text-requires
-verdict-text-requires c κs = search needs
-
-slice-aggregate-name : tie.Need-slice-aggregate-name
-slice-aggregate-name c = search needs
-
-put-requires : tie.Need-put-requires
-put-requires c κs = search needs
-
 sub-put : tie.Need-sub-put
 sub-put c =
     let start = c .before .before .before .before .before .before .before .before .before .before in
@@ -48,9 +39,6 @@ part-put-start c =
     let here = put-count (now (a .word)) (now (a .line)) short (first .result) (first .ensures .0) in
     omega (arith, short, here, first .kept .0)
 
-part-put-end : tie.Need-part-put-end
-part-put-end c = search needs
-
 slice-aggregate-put : tie.Need-slice-aggregate-put
 slice-aggregate-put c =
     let a = c .before .before .before .before .before .before .before .before .before .before .before .before .args in
@@ -58,9 +46,6 @@ slice-aggregate-put c =
     let eight : length (text .result .bytes) ≡ 8 = search needs in
     let few : text .result .count ≤ 8 = text-short (verdictLine (verdictNumber (a .verdict)) (a .host)) (text .ensures .0) (text .ensures .1) eight in
     sym (length-take-le (text .result .count) (text .result .bytes) (omega (arith, few, eight)))
-
-put-requires-2 : tie.Need-put-requires-2
-put-requires-2 c κs = search needs
 
 add-result : tie.Need-add-result
 add-result c =
@@ -73,9 +58,6 @@ add-result c =
     let eight : length (text .result .bytes) ≡ 8 = search needs in
     let few : text .result .count ≤ 8 = text-short (verdictLine (verdictNumber (a .verdict)) (a .host)) (text .ensures .0) (text .ensures .1) eight in
     omega (arith, here, few, start .pre)
-
-same-length : tie.Need-same-length
-same-length c = search needs
 
 returns-2 : tie.Need-returns-2
 unfolding offerLine
@@ -98,14 +80,14 @@ print-offer-spec =
     tie.close
     (tie.spec
     returns
-    verdict-text-requires
-    slice-aggregate-name
-    put-requires
+    (λ c κs. search needs)
+    (λ c. search needs)
+    (λ c κs. search needs)
     sub-put
     part-put-start
-    part-put-end
+    (λ c. search needs)
     slice-aggregate-put
-    put-requires-2
+    (λ c κs. search needs)
     add-result
-    same-length
+    (λ c. search needs)
     returns-2)

@@ -1,4 +1,4 @@
--- `recording_playback::after_write` meets its contract. Assumes nothing.
+-- `recording_playback::after_write` meets its contract.
 use mathlib.Core.Path.{refl}
 use Rattle.recording_playback.proofs.ends.after_write.Statement.{statement}
 use Rattle.recording_playback.proofs.ends.after_write.Tie as tie

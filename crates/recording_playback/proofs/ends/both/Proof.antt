@@ -1,4 +1,4 @@
--- `recording_playback::both` meets its contract. Assumes nothing.
+-- `recording_playback::both` meets its contract.
 use mathlib.Core.Path.{refl}
 use Rattle.recording_playback.proofs.ends.both.Statement.{statement}
 use Rattle.recording_playback.proofs.ends.both.Tie as tie

@@ -1,4 +1,4 @@
--- `recording_playback::ended` meets its contract. Assumes nothing.
+-- `recording_playback::ended` meets its contract.
 use mathlib.Core.Path.{refl}
 use Rattle.recording_playback.proofs.ends.ended.Statement.{statement}
 use Rattle.recording_playback.proofs.ends.ended.Tie as tie

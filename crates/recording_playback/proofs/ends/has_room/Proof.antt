@@ -1,4 +1,4 @@
--- `recording_playback::has_room` meets its contract. Assumes nothing.
+-- `recording_playback::has_room` meets its contract.
 use Prim.Native.Nat.{ℕ, _-_, _<_}
 use mathlib.Core.Path.{_≡_, sym}
 use mathlib.Core.Bool.{false}
@@ -16,8 +16,5 @@ past-end size used past = lt-leb 96 (size - used) (omega arith)
 returns : tie.Need-returns
 returns c = sym (past-end _ _ (c .if1 .taken))
 
-returns-2 : tie.Need-returns-2
-returns-2 c = search needs
-
 pub has-room-spec : {M : Type 1} → statement M
-has-room-spec = tie.close (tie.spec returns returns-2)
+has-room-spec = tie.close (tie.spec returns (λ c. search needs))

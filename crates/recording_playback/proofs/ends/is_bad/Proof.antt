@@ -1,19 +1,7 @@
--- `recording_playback::is_bad` meets its contract: one case after the other. Assumes nothing.
+-- `recording_playback::is_bad` meets its contract: one case after the other.
 use borrow.Author.Needs.{needs}
 use Rattle.recording_playback.proofs.ends.is_bad.Statement.{statement}
 use Rattle.recording_playback.proofs.ends.is_bad.Tie as tie
-
-enum-told : tie.Need-enum-told
-enum-told c = search needs
-
-enum-told-2 : tie.Need-enum-told-2
-enum-told-2 c = search needs
-
-enum-told-3 : tie.Need-enum-told-3
-enum-told-3 c = search needs
-
-enum-told-4 : tie.Need-enum-told-4
-enum-told-4 c = search needs
 
 returns : tie.Need-returns
 returns c = rw (c .enum-told .given .1)
@@ -31,10 +19,10 @@ pub is-bad-spec : {M : Type 1} → statement M
 is-bad-spec =
     tie.close
     (tie.spec
-    enum-told
-    enum-told-2
-    enum-told-3
-    enum-told-4
+    (λ c. search needs)
+    (λ c. search needs)
+    (λ c. search needs)
+    (λ c. search needs)
     returns
     returns-2
     returns-3

@@ -1,4 +1,4 @@
--- `recording_playback::next_field` meets its contract: a whole field ends within the input, and without one the playing ends. Assumes nothing.
+-- `recording_playback::next_field` meets its contract: a whole field ends within the input, and without one the playing ends.
 use Prim.Native.Nat.{ℕ, _+_, _≤_}
 use mathlib.Core.Path.{_≡_, refl, sym, ap, subst, _∙_}
 use mathlib.Core.Bool.{Bool, true, false}
@@ -47,15 +47,6 @@ field-comes input out at used tag n place is line fits =
       fits = fits;
     }
 
-find-requires : tie.Need-find-requires
-find-requires c κs = search needs
-
-enum-known-found : tie.Need-enum-known-found
-enum-known-found c = search needs
-
-stopped-requires : tie.Need-stopped-requires
-stopped-requires c κs = search needs
-
 returns : tie.Need-returns
 returns c =
     let told = c .stopped .ensures in
@@ -66,12 +57,6 @@ returns c =
       none = λ _ tag n is. not-whole found (c .before .match .keys2) tag n (c .before .before .find .ensures ∙ is);
       more = λ on. sym (ap waits (c .before .before .find .ensures)) ∙ more-to-come found _ (c .before .match .keys2) (told .2) on;
     }
-
-make-room-requires : tie.Need-make-room-requires
-make-room-requires c κs = search needs
-
-ended-requires : tie.Need-ended-requires
-ended-requires c κs = search needs
 
 returns-2 : tie.Need-returns-2
 returns-2 c =
@@ -89,9 +74,6 @@ add-start c =
     let ends = whole-ends _ _ _ _ (sym (c .before .before .before .before .found .given .1) ∙ c .before .before .before .before .before .before .find .ensures) in
     omega (arith, ends)
 
-cast-t14 : tie.Need-cast-t14
-cast-t14 c = search needs
-
 add-t15 : tie.Need-add-t15
 add-t15 c =
     let ends = whole-ends _ _ _ _ (sym (c .before .before .before .before .found .given .1) ∙ c .before .before .before .before .before .before .find .ensures) in
@@ -107,14 +89,14 @@ pub next-field-spec : {M : Type 1} → statement M
 next-field-spec =
     tie.close
     (tie.spec
-    find-requires
-    enum-known-found
-    stopped-requires
+    (λ c κs. search needs)
+    (λ c. search needs)
+    (λ c κs. search needs)
     returns
-    make-room-requires
-    ended-requires
+    (λ c κs. search needs)
+    (λ c κs. search needs)
     returns-2
     add-start
-    cast-t14
+    (λ c. search needs)
     add-t15
     returns-3)

@@ -1,4 +1,4 @@
--- `recording_playback::make_room` meets its contract: the place behind, or a new start. Assumes nothing.
+-- `recording_playback::make_room` meets its contract: the place behind, or a new start.
 use mathlib.Core.Path.{refl, sym, _∙_}
 use native.Mathlib.Omega.{arith}
 use denote.Ref.{now}
@@ -8,23 +8,11 @@ use borrow.Author.Needs.{needs}
 use Rattle.recording_playback.proofs.output.make_room.Statement.{statement}
 use Rattle.recording_playback.proofs.output.make_room.Tie as tie
 
-has-room-requires : tie.Need-has-room-requires
-has-room-requires c κs = search needs
-
 returns : tie.Need-returns
 returns c =
     let a = c .before .before .before .args in
     let room = sym (c .before .has-room .ensures) ∙ c .if1 .taken in
     (place-behind (now (a .out)) (a .used) room, (λ _. behind-fits (now (a .out)) (a .used) room, λ _. refl))
-
-up-to-requires : tie.Need-up-to-requires
-up-to-requires c κs = search needs
-
-write-all-requires : tie.Need-write-all-requires
-write-all-requires c κs = search needs
-
-after-write-requires : tie.Need-after-write-requires
-after-write-requires c κs = search needs
 
 returns-2 : tie.Need-returns-2
 returns-2 c =
@@ -37,9 +25,9 @@ pub make-room-spec : {M : Type 1} → statement M
 make-room-spec =
     tie.close
     (tie.spec
-    has-room-requires
+    (λ c κs. search needs)
     returns
-    up-to-requires
-    write-all-requires
-    after-write-requires
+    (λ c κs. search needs)
+    (λ c κs. search needs)
+    (λ c κs. search needs)
     returns-2)

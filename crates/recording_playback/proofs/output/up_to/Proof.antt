@@ -1,4 +1,4 @@
--- `recording_playback::up_to` meets its contract. Assumes nothing.
+-- `recording_playback::up_to` meets its contract.
 use mathlib.Core.Path.{refl, sym}
 use native.Mathlib.Omega.{arith}
 use lib.Seq.{take-all, length-take-le}

@@ -1,4 +1,4 @@
--- `recording_step::block_line` meets its contract: the block call, and its line. Assumes nothing.
+-- `recording_step::block_line` meets its contract: the block call, and its line.
 use denote.Ref.{now}
 use Rattle.recording_lines.specs.Offers.{blockWord}
 use Rattle.recording_step.proofs.Offers.{offer-refused, offer-played}
@@ -9,15 +9,6 @@ use Rattle.recording_step.proofs.offer.block_line.Tie as tie
 returns : tie.Need-returns
 returns c = offer-refused _ _ _ _ _ _ (c .if1 .taken)
 
-offer-block-requires : tie.Need-offer-block-requires
-offer-block-requires c κs = search needs
-
-print-block-requires : tie.Need-print-block-requires
-print-block-requires c κs = search needs
-
-same-length : tie.Need-same-length
-same-length c = search needs
-
 returns-2 : tie.Need-returns-2
 returns-2 c =
     let line = now (c .before .before .before .before .before .before .before .before .before .args .line) in
@@ -27,4 +18,4 @@ returns-2 c =
 
 pub block-line-spec : {M : Type 1} → statement M
 block-line-spec =
-    tie.close (tie.spec returns offer-block-requires print-block-requires same-length returns-2)
+    tie.close (tie.spec returns (λ c κs. search needs) (λ c κs. search needs) (λ c. search needs) returns-2)

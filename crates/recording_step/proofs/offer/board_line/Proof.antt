@@ -1,4 +1,4 @@
--- `recording_step::board_line` meets its contract: the board call, and its line. Assumes nothing.
+-- `recording_step::board_line` meets its contract: the board call, and its line.
 use mathlib.Core.Path.{refl}
 use denote.Ref.{now}
 use Rattle.recording_lines.specs.Offers.{boardWord}
@@ -10,15 +10,6 @@ use Rattle.recording_step.proofs.offer.board_line.Tie as tie
 returns : tie.Need-returns
 returns c = offer-refused _ _ _ _ _ _ (c .if1 .taken)
 
-offer-board-requires : tie.Need-offer-board-requires
-offer-board-requires c κs = search needs
-
-print-board-requires : tie.Need-print-board-requires
-print-board-requires c κs = search needs
-
-same-length : tie.Need-same-length
-same-length c = search needs
-
 returns-2 : tie.Need-returns-2
 returns-2 c =
     let line = now (c .before .before .before .before .before .before .before .before .before .args .line) in
@@ -28,4 +19,4 @@ returns-2 c =
 
 pub board-line-spec : {M : Type 1} → statement M
 board-line-spec =
-    tie.close (tie.spec returns offer-board-requires print-board-requires same-length returns-2)
+    tie.close (tie.spec returns (λ c κs. search needs) (λ c κs. search needs) (λ c. search needs) returns-2)

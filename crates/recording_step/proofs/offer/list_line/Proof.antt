@@ -1,4 +1,4 @@
--- `recording_step::list_line` meets its contract: the list call, and its line. Assumes nothing.
+-- `recording_step::list_line` meets its contract: the list call, and its line.
 use mathlib.Core.Path.{refl}
 use denote.Ref.{now}
 use Rattle.recording_lines.specs.Offers.{listWord}
@@ -10,15 +10,6 @@ use Rattle.recording_step.proofs.offer.list_line.Tie as tie
 returns : tie.Need-returns
 returns c = offer-refused _ _ _ _ _ _ (c .if1 .taken)
 
-offer-list-requires : tie.Need-offer-list-requires
-offer-list-requires c κs = search needs
-
-print-list-requires : tie.Need-print-list-requires
-print-list-requires c κs = search needs
-
-same-length : tie.Need-same-length
-same-length c = search needs
-
 returns-2 : tie.Need-returns-2
 returns-2 c =
     let line = now (c .before .before .before .before .before .before .before .before .before .args .line) in
@@ -28,4 +19,4 @@ returns-2 c =
 
 pub list-line-spec : {M : Type 1} → statement M
 list-line-spec =
-    tie.close (tie.spec returns offer-list-requires print-list-requires same-length returns-2)
+    tie.close (tie.spec returns (λ c κs. search needs) (λ c κs. search needs) (λ c. search needs) returns-2)

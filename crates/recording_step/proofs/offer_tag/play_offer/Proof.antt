@@ -1,37 +1,19 @@
--- `recording_step::play_offer` meets its contract: each tag has its call, and no more. Assumes nothing.
+-- `recording_step::play_offer` meets its contract: each tag has its call, and no more.
 use denote.Ref.{now}
 use Rattle.recording_step.proofs.OfferByTag.{list-offer, block-offer, board-offer}
 use borrow.Author.Needs.{needs}
 use Rattle.recording_step.proofs.offer_tag.play_offer.Statement.{statement}
 use Rattle.recording_step.proofs.offer_tag.play_offer.Tie as tie
 
-list-line-requires : tie.Need-list-line-requires
-list-line-requires c κs = search needs
-
-same-length : tie.Need-same-length
-same-length c = search needs
-
 returns : tie.Need-returns
 returns c =
     let a = c .before .before .before .before .before .before .before .before .before .args in
     list-offer (a .tag) (now (a .body)) (now (a .board)) (now (a .access)) (now (a .line)) _ _ _ (c .before .before .before .before .before .before .if1 .taken) (c .before .before .list-line .ensures)
 
-block-line-requires : tie.Need-block-line-requires
-block-line-requires c κs = search needs
-
-same-length-2 : tie.Need-same-length-2
-same-length-2 c = search needs
-
 returns-2 : tie.Need-returns-2
 returns-2 c =
     let a = c .before .before .before .before .before .before .before .before .before .before .args in
     block-offer (a .tag) (now (a .body)) (now (a .board)) (now (a .access)) (now (a .line)) _ _ _ (c .before .before .before .before .before .before .if2 .taken) (c .before .before .block-line .ensures)
-
-board-line-requires : tie.Need-board-line-requires
-board-line-requires c κs = search needs
-
-same-length-3 : tie.Need-same-length-3
-same-length-3 c = search needs
 
 returns-3 : tie.Need-returns-3
 returns-3 c =
@@ -42,12 +24,12 @@ pub play-offer-spec : {M : Type 1} → statement M
 play-offer-spec =
     tie.close
     (tie.spec
-    list-line-requires
-    same-length
+    (λ c κs. search needs)
+    (λ c. search needs)
     returns
-    block-line-requires
-    same-length-2
+    (λ c κs. search needs)
+    (λ c. search needs)
     returns-2
-    board-line-requires
-    same-length-3
+    (λ c κs. search needs)
+    (λ c. search needs)
     returns-3)

@@ -1,4 +1,4 @@
--- `recording_texts::digit_count` meets its contract: each test has the next power of ten. Assumes nothing.
+-- `recording_texts::digit_count` meets its contract: each test has the next power of ten.
 use mathlib.Core.Path.{sym, ap}
 use native.Mathlib.Omega.{arith}
 use lib.ListN.{length}

@@ -1,4 +1,4 @@
--- `recording_texts::bad_line` meets its contract. Assumes nothing.
+-- `recording_texts::bad_line` meets its contract.
 use mathlib.Core.Path.{refl}
 use Rattle.recording_texts.proofs.names.bad_line.Statement.{statement}
 use Rattle.recording_texts.proofs.names.bad_line.Tie as tie

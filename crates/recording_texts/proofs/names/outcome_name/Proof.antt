@@ -1,4 +1,4 @@
--- `recording_texts::outcome_name` meets its contract: OK, N or R by the outcome's number. Assumes nothing.
+-- `recording_texts::outcome_name` meets its contract: OK, N or R by the outcome's number.
 use Prim.Native.Nat.{_≤_}
 use mathlib.Core.Path.{sym}
 use native.Mathlib.Omega.{arith}
@@ -26,24 +26,12 @@ outcome-small R3 = lit≤ tt
 outcome-small N9 = lit≤ tt
 outcome-small Ok = lit≤ tt
 
-outcome-number-requires : tie.Need-outcome-number-requires
-outcome-number-requires c κs = search needs
-
 returns : tie.Need-returns
 returns c = rw (sym (c .before .outcome-number .ensures), eq-eqb _ 0 (c .if1 .taken))
-
-cast-t4 : tie.Need-cast-t4
-cast-t4 c = search needs
-
-add-t5 : tie.Need-add-t5
-add-t5 c = search needs
 
 returns-2 : tie.Need-returns-2
 returns-2 c =
     rw (sym (c .before .before .outcome-number .ensures), ne-eqb _ 0 (c .before .if1 .left), lt-ltb _ 100 (c .if2 .taken))
-
-sub-t6 : tie.Need-sub-t6
-sub-t6 c = search needs
 
 cast-t7 : tie.Need-cast-t7
 cast-t7 c =
@@ -56,4 +44,4 @@ returns-3 c =
 pub outcome-name-spec : {M : Type 1} → statement M
 outcome-name-spec =
     tie.close
-    (tie.spec outcome-number-requires returns cast-t4 add-t5 returns-2 sub-t6 cast-t7 returns-3)
+    (tie.spec (λ c κs. search needs) returns (λ c. search needs) (λ c. search needs) returns-2 (λ c. search needs) cast-t7 returns-3)

@@ -1,4 +1,4 @@
--- `recording_texts::verdict_letter` meets its contract: by the number's hundreds. Assumes nothing.
+-- `recording_texts::verdict_letter` meets its contract: by the number's hundreds.
 use borrow.Author.Tests.{lt-ltb, le-ltb}
 use Rattle.recording_texts.proofs.verdict.verdict_letter.Statement.{statement}
 use Rattle.recording_texts.proofs.verdict.verdict_letter.Tie as tie

@@ -1,4 +1,4 @@
--- `recording_texts::verdict_text` meets its contract: by the verdict's number. Assumes nothing.
+-- `recording_texts::verdict_text` meets its contract: by the verdict's number.
 use Prim.Native.Nat.{ℕ, _+_, _%_}
 use mathlib.Core.Path.{refl, sym, ap, ap₂, _∙_}
 use mathlib.Core.List.{[], _∷_}
@@ -8,16 +8,10 @@ use borrow.Author.Needs.{needs}
 use Rattle.recording_texts.proofs.verdict.verdict_text.Statement.{statement}
 use Rattle.recording_texts.proofs.verdict.verdict_text.Tie as tie
 
-verdict-number-requires : tie.Need-verdict-number-requires
-verdict-number-requires c κs = search needs
-
 returns : tie.Need-returns
 returns c =
     let given = c .before .before .args in
     told _ (ap (λ (n : ℕ). verdictLine n (given .host)) (sym (c .before .verdict-number .ensures) ∙ c .if1 .taken)) refl refl
-
-loop-text-requires : tie.Need-loop-text-requires
-loop-text-requires c κs = search needs
 
 returns-2 : tie.Need-returns-2
 returns-2 c =
@@ -29,15 +23,6 @@ returns-3 : tie.Need-returns-3
 returns-3 c =
     let given = c .before .before .before .before .args in
     told _ (ap (λ (n : ℕ). verdictLine n (given .host)) (sym (c .before .before .before .verdict-number .ensures) ∙ c .if3 .taken) ∙ ten-line (given .host)) refl refl
-
-verdict-letter-requires : tie.Need-verdict-letter-requires
-verdict-letter-requires c κs = search needs
-
-cast-digit : tie.Need-cast-digit
-cast-digit c = search needs
-
-add-digit : tie.Need-add-digit
-add-digit c = search needs
 
 returns-4 : tie.Need-returns-4
 returns-4 c =
@@ -52,12 +37,12 @@ pub verdict-text-spec : {M : Type 1} → statement M
 verdict-text-spec =
     tie.close
     (tie.spec
-    verdict-number-requires
+    (λ c κs. search needs)
     returns
-    loop-text-requires
+    (λ c κs. search needs)
     returns-2
     returns-3
-    verdict-letter-requires
-    cast-digit
-    add-digit
+    (λ c κs. search needs)
+    (λ c. search needs)
+    (λ c. search needs)
     returns-4)
