@@ -1,12 +1,12 @@
 // The board in force, read out of the lent board memory: its hosts, its processors with their rows,
-// classes and homes; and the flag bits that may be named. Each function gives what the definition of the
-// same name in rules/specs/Board.antt gives, for any content of the memory and any number.
+// classes and homes. Each function gives what the definition of the same name in rules/specs/Board.antt
+// gives, for any content of the memory and any number.
 mod clearing;
 
 pub use clearing::clear;
 ghost use Prim.Native.Nat.{_<_};
 ghost use mathlib.Core.Path.{_≡_};
-ghost use Rattle.rules.specs.Board.{boardHost, activeHost, rowOf, classAt, homeAt, maskOf};
+ghost use Rattle.rules.specs.Board.{boardHost, activeHost, rowOf, classAt, homeAt};
 ghost use Rattle.board.specs.Memory.{boardIn};
 
 // The board memory: tables of the hosts, of the processors' rows, and by row of classes and homes.
@@ -23,9 +23,6 @@ pub const HOMES: usize = 544;
 
 // How many rows a board has: one for each of at most 32 processors.
 pub const ROWS: u8 = 32;
-
-// The flag bits that may be named, indexed first by class and then by word.
-const MASKS: [[u32; 2]; 2] = [[0xFF03, 0x3], [0x10F, 0x103]];
 
 // Whether `host` is on the board. Hosts of an access list have 16 bits and are compared as such: one
 // above 255 is on no board. Host 0 is on every board.
@@ -72,18 +69,6 @@ pub fn home_at(board: &BoardMemory, row: u8) -> u8
 {
     if row < ROWS {
         return board[HOMES + row as usize] % ROWS;
-    }
-    0
-}
-
-// The flag bits that may be named in `word`, 0 for config and 1 for control, by a processor's class.
-pub fn mask_of(class: usize, word: usize) -> u32
-    ensures { λ r. ⌜ r ≡ maskOf class word ⌝ }
-{
-    if class < 2 {
-        if word < 2 {
-            return MASKS[class][word];
-        }
     }
     0
 }

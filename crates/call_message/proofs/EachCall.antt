@@ -16,21 +16,21 @@ use Rattle.rules.specs.declared.Report.{Report}
 use Rattle.rules.specs.Table.{firstOf}
 use Rattle.rules.specs.Board.{Board, rows, rowOf, onBoard}
 use Rattle.rules.specs.Message.{Query, query, kindIn, subjectOf}
-use Rattle.rules.specs.Outcome.{View, admission, outcomeTable, outcomeOf, carriedOut}
+use Rattle.rules.specs.Outcome.{View, beforeType, admission, outcomeTable, outcomeOf, carriedOut}
 use Rattle.rules.specs.Effect.{effectOf, recordAfter}
 use Rattle.rules.specs.Answer.{ackBytes, bytesFor, answerBytes, answerOf, reportOf, bufferAfter}
 use Rattle.rules.specs.State.{State, viewOf, putIn, stored}
 use Rattle.rules.specs.Call.{afterMessage, answerTo, next}
 use Rattle.rules.proofs.Tests.{decide, cond-true, cond-false}
 use Rattle.rules.proofs.Rights.{allowed}
+use Rattle.board.specs.Memory.{boardIn}
 use Rattle.access.specs.Memory.{setupIn}
-use Rattle.record.specs.Memory.{recordAt, recordsIn, stateIn, viewIn}
+use Rattle.record.specs.Memory.{recordSize, memories, recordAt, recordsIn, stateIn, viewIn}
 use Rattle.record.proofs.LentMemory.{record-length, record-same, store-same, records-store, view-in}
 use Rattle.message_operation.specs.declared.Decision.{Decision}
-use Rattle.message_operation.specs.Operation.{asked, rowIn, memoryAfter, decisionOn}
+use Rattle.message_operation.specs.Operation.{asked, rowIn, memoryAfter, decisionOn, Decides}
 use Rattle.message_answer.specs.Puts.{fitted, Puts}
 use Rattle.message_answer.proofs.Answers.{fitted-none, bytes-silent, bytes-short, bytes-after}
-use Rattle.call_message.specs.Decision.{Decides}
 use Rattle.call_message.specs.Calls.{lending, MessageCall}
 
 -- ---- every answer fits
@@ -42,7 +42,7 @@ written-short s q = bytes-short _ q _
 
 -- R1 has no answer, and any other outcome has room for it
 all-fits : (v : View) (q : Query) → fitted (q .room) (answerOf v q) ≡ answerOf v q
-unfolding answerOf fitted outcomeOf outcomeTable admission firstOf
+unfolding answerOf fitted outcomeOf outcomeTable admission beforeType firstOf
 all-fits v q =
     ⊎-elim
     (λ (small : ltb (q .room) 29 ≡ true).
@@ -67,7 +67,10 @@ unfolding memoryAfter
 memory-length b k o m q =
     ⊎-elim (λ t. ap length (cond-true _ m t) ∙ record-length b m (rowIn b q) _) (λ f. ap length (cond-false _ m f)) (decide (carriedOut o))
 
-module _ (b : Board) (a m : List ℕ) (channel : ℕ) (bytes words held : List ℕ) (la : length a ≡ 129) (lm : length m ≡ 288) where
+module _ (board a m : List ℕ) (channel : ℕ) (bytes words held : List ℕ) (la : length a ≡ 129) (lm : length m ≡ recordSize) where
+  abbrev b : Board
+  b = boardIn board
+
   abbrev q : Query
   q = query channel bytes words (length held)
 
@@ -110,10 +113,11 @@ module _ (b : Board) (a m : List ℕ) (channel : ℕ) (bytes words held : List �
   plain-query o r = refl
 
   pub message-call : (d : Decision) (n : ℕ) (m′ held′ : List ℕ)
-      → Decides b a m q m′ d
+      → Decides outcomeTable (kindIn bytes) (memories board a m) q m′ d
       → Puts (answerBytes (d .outcome) (asked 0 bytes words) (recordAt b m′ (rowIn b (asked 0 bytes words)))) held held′ n
-      → MessageCall b a m (lending channel bytes words held) m′ held′ (record { outcome = d .outcome; checks = d .checks; micros = d .micros; written = n; role = d .role })
-  unfolding stateIn answerTo next afterMessage stored reportOf decisionOn subjectOf setupIn
+      → MessageCall (memories board a m) (lending channel bytes words held) m′ held′
+      (record { outcome = d .outcome; checks = d .checks; micros = d .micros; written = n; role = d .role })
+  unfolding stateIn answerTo next afterMessage stored reportOf decisionOn subjectOf setupIn outcomeOf
   message-call d n m′ held′ decides puts =
       let is : d .outcome ≡ outcomeOf v q = ap (λ (x : Decision). x .outcome) (decides .decision) in
       let left : m′ ≡ memoryAfter b (kindIn bytes) (outcomeOf v q) m q = decides .records ∙ ap (λ (o : Outcome). memoryAfter b (kindIn bytes) o m q) is in

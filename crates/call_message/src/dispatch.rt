@@ -1,12 +1,13 @@
 // The rows of document 01's outcome table from N3 on: the type decides which function carries the
-// message out. Each type's function is in a crate of its own: request, release, handover, config, control,
-// boot, watch and waits.
-ghost use Rattle.board.specs.Memory.{boardIn};
-ghost use Rattle.message_operation.specs.Operation.{asked};
-ghost use Rattle.call_message.specs.Dispatched.{DecidesKind};
+// message out. Each type's function is in a crate of its own.
+ghost use Prim.Native.Nat.{ℕ};
+ghost use Rattle.rules.specs.Message.{query, kindIn};
+ghost use Rattle.rules.specs.Outcome.{fromType};
+ghost use Rattle.record.specs.Memory.{memories};
+ghost use Rattle.message_operation.specs.Operation.{Decides};
 use board::BoardMemory;
 use message_auth_boot::authenticated_boot;
-use message_fields::kind_of;
+use message_fields::kind_in;
 use message_get_status::get_status;
 use message_handover::handover;
 use message_operation::Decision;
@@ -19,10 +20,9 @@ use message_wait_status::wait_status;
 use record::RecordMemory;
 use rules::Kind;
 use rules::Outcome;
-use wire::u16_at;
 
 // The rows from N3 on, by the type, with the effect of OK.
-pub fn by_kind(
+pub(crate) fn by_kind(
     board: &BoardMemory,
     access: &[u16],
     records: &mut RecordMemory,
@@ -30,9 +30,11 @@ pub fn by_kind(
     message: &[u8],
     status: &[u32],
 ) -> Decision
-    ensures { λ r. ⌜ DecidesKind (boardIn (now (board .entry))) (now (access .entry)) (now (records .entry)) (asked channel (now (message .entry)) (now (status .entry))) (now (records .exit)) r ⌝ }
+    ensures { λ r. ⌜ ((room : ℕ) → Decides fromType (kindIn (now (message .entry)))
+        (memories (now (board .entry)) (now (access .entry)) (now (records .entry)))
+        (query channel (now (message .entry)) (now (status .entry)) room) (now (records .exit)) r) ⌝ }
 {
-    let kind = kind_of(u16_at(message, 0));
+    let kind = kind_in(message);
     match kind {
         Kind::Request => request(board, access, records, channel, message),
         Kind::Release => outcome_alone(release(board, records, channel, message)),

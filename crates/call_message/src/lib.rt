@@ -5,12 +5,13 @@
 mod dispatch;
 mod screen;
 
-ghost use Rattle.board.specs.Memory.{boardIn};
+ghost use Rattle.rules.specs.Message.{query, kindIn};
+ghost use Rattle.rules.specs.Outcome.{outcomeTable};
+ghost use Rattle.record.specs.Memory.{memories};
+ghost use Rattle.message_operation.specs.Operation.{Decides};
 ghost use Rattle.call_message.specs.Calls.{lending, MessageCall};
-ghost use Rattle.rules.specs.Message.{query};
-ghost use Rattle.call_message.specs.Decision.{Decides};
 use crate::dispatch::by_kind;
-use crate::screen::admit;
+use crate::screen::before_type;
 use access::AccessMemory;
 use board::BoardMemory;
 use message_answer::write_answer;
@@ -30,9 +31,11 @@ fn decide(
     status: &[u32],
     room: usize,
 ) -> Decision
-    ensures { λ r. ⌜ Decides (boardIn (now (board .entry))) (now (access .entry)) (now (records .entry)) (query channel (now (message .entry)) (now (status .entry)) room) (now (records .exit)) r ⌝ }
+    ensures { λ r. ⌜ Decides outcomeTable (kindIn (now (message .entry)))
+        (memories (now (board .entry)) (now (access .entry)) (now (records .entry)))
+        (query channel (now (message .entry)) (now (status .entry)) room) (now (records .exit)) r ⌝ }
 {
-    let first = admit(board, access, channel, message, room);
+    let first = before_type(board, access, channel, message, room);
     match first {
         Outcome::Ok => by_kind(board, access, records, channel, message, status),
         refusal => outcome_alone(refusal),
@@ -51,7 +54,10 @@ pub fn message(
     status: &[u32],
     answer: &mut [u8],
 ) -> Report
-    ensures { λ r. ⌜ MessageCall (boardIn (now (board .entry))) (now (access .entry)) (now (records .entry)) (lending channel (now (message .entry)) (now (status .entry)) (now (answer .entry))) (now (records .exit)) (now (answer .exit)) r ⌝ }
+    ensures { λ r. ⌜ MessageCall
+        (memories (now (board .entry)) (now (access .entry)) (now (records .entry)))
+        (lending channel (now (message .entry)) (now (status .entry)) (now (answer .entry)))
+        (now (records .exit)) (now (answer .exit)) r ⌝ }
 {
     let list = &access[..];
     let room = answer.len();

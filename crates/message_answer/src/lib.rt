@@ -20,7 +20,7 @@ use board::BoardMemory;
 use message_fields::answer_asked;
 use message_fields::kind_of;
 use message_operation::row_in;
-use record::load;
+use record::record_at;
 use result_numbers::outcome_number;
 use rules::Kind;
 use rules::Outcome;
@@ -53,7 +53,7 @@ fn write_ack(
     }
     let kind = kind_of(u16_at(message, 0));
     if let Kind::GetStatus = kind {
-        let state = load(board, records, row_in(board, message));
+        let state = record_at(board, records, row_in(board, message));
         let bytes = status_answer(message, state, status_now(status));
         return put(answer, &bytes);
     }

@@ -1,13 +1,60 @@
-// The message types; whether an answer is asked for, whether a vector is kept, and the operands of a
-// wait. The rules are document 01's tables, in rules/specs.
-// Each function gives what the definition that its contract names gives, for any input.
+// What a message says before its type's own operands: header, types, sizes and the places of the fields, as
+// document 01's tables have them. The rules are rules/specs/Message.antt.
 ghost use mathlib.Core.Path.{_≡_};
-ghost use Rattle.rules.specs.Message.{kindOf, answerAsked, waitIn};
-ghost use Rattle.rules.specs.Flags.{keepsVector};
+ghost use Rattle.rules.specs.Message.{kindOf, kindIn, answerAsked};
 use rules::Kind;
-use rules::Wait;
-use wire::byte_at;
+use wire::u16_at;
 use wire::u32_at;
+
+// The places of the header's fields.
+const TYPE: usize = 0;
+
+pub const HOST: usize = 2;
+
+pub const SEQUENCE: usize = 3;
+
+pub const FLAGS: usize = 4;
+
+// The bytes of the header, and how many a message has at most.
+pub const HEADER_BYTES: usize = 8;
+
+pub const MESSAGE_BYTES: usize = 60;
+
+// The bytes of each type's structure, with the header.
+pub const REQUEST_BYTES: usize = 9;
+
+pub const RELEASE_BYTES: usize = 9;
+
+pub const HANDOVER_BYTES: usize = 10;
+
+pub const SET_CONFIG_BYTES: usize = 25;
+
+pub const SET_CONTROL_BYTES: usize = 17;
+
+pub const AUTH_BOOT_BYTES: usize = 16;
+
+pub const GET_STATUS_BYTES: usize = 9;
+
+pub const WAIT_STATUS_BYTES: usize = 29;
+
+// The place of the processor, in every type that names one, and of handover's new host.
+pub const PROCESSOR: usize = 8;
+
+pub const NEW_HOST: usize = 9;
+
+// The places of set config's fields.
+pub const VECTOR_LOW: usize = 9;
+
+pub const VECTOR_HIGH: usize = 13;
+
+pub const CONFIG_SET: usize = 17;
+
+pub const CONFIG_CLEAR: usize = 21;
+
+// The places of set control's fields.
+pub const CONTROL_SET: usize = 9;
+
+pub const CONTROL_CLEAR: usize = 13;
 
 // What a message asks for, by the number of its type.
 pub fn kind_of(number: u16) -> Kind
@@ -26,32 +73,16 @@ pub fn kind_of(number: u16) -> Kind
     }
 }
 
+// What a message asks for, by its type.
+pub fn kind_in(message: &[u8]) -> Kind
+    ensures { λ r. ⌜ r ≡ kindIn (now (message .entry)) ⌝ }
+{
+    kind_of(u16_at(message, TYPE))
+}
+
 // Whether the message asks for an answer: flag bit 1.
 pub fn answer_asked(message: &[u8]) -> bool
     ensures { λ r. ⌜ r ≡ answerAsked (now (message .entry)) ⌝ }
 {
-    u32_at(message, 4) / 2 % 2 == 1
-}
-
-// Whether the clear word of set config says that the vector is neither checked nor stored: bit 28.
-pub fn keeps_vector(clear: u32) -> bool
-    ensures { λ r. ⌜ r ≡ keepsVector clear ⌝ }
-{
-    clear / 0x10000000 % 2 == 1
-}
-
-// The operands of a wait.
-pub fn wait_in(message: &[u8]) -> Wait
-    ensures { λ r. ⌜ r ≡ waitIn (now (message .entry)) ⌝ }
-{
-    Wait {
-        waits: byte_at(message, 9),
-        matches: byte_at(message, 10),
-        delay: byte_at(message, 11),
-        before: byte_at(message, 12),
-        allset: u32_at(message, 13),
-        anyset: u32_at(message, 17),
-        allclear: u32_at(message, 21),
-        anyclear: u32_at(message, 25),
-    }
+    u32_at(message, FLAGS) / 2 % 2 == 1
 }

@@ -4,6 +4,7 @@ use Prim.Native.Nat.{ℕ, _≤_, _<_}
 use mathlib.Core.Path.{_≡_, refl, sym, subst, subst⁻¹, ap, _∙_}
 use mathlib.Core.Bool.{Bool, true, false, cond, not}
 use mathlib.Core.List.{List}
+use mathlib.Core.Logic.{⊎-elim}
 use lib.ListN.{length}
 use lib.Dec.{eqb}
 use borrow.Author.Tests.{lt-ltb, le-ltb, ltb-true, not-true, not-false}
@@ -19,16 +20,17 @@ use Rattle.rules.specs.Board.{Board, rows, rowOf, onBoard, classAt, classOf, ho
 use Rattle.rules.specs.Role.{roleOf}
 use Rattle.rules.specs.Bytes.{u16At}
 use Rattle.rules.specs.Message.{Query, kindOf, kindIn, sizeOf, isKind, processorOf, subjectOf}
-use Rattle.rules.specs.Outcome.{View, tooShort, notOffered, senderRole, hasRight, operandsGood, wordsMissing, waitFailed, byWords, carriedOut, outcomeNumber}
+use Rattle.rules.specs.Outcome.{View, tooShort, notOffered, senderRole, hasRight, operandsGood, wordsMissing, waitFailed, behindType, byWords, fromN4, carriedOut, outcomeNumber}
 use Rattle.rules.specs.Effect.{effectOf}
 use Rattle.rules.specs.Answer.{okOr, waited, tellsRole}
 use Rattle.rules.specs.State.{ownOf}
-use Rattle.rules.proofs.Tests.{cond-true, cond-false}
+use Rattle.rules.proofs.Tests.{decide, cond-true, cond-false}
+use Rattle.board.specs.Memory.{boardIn}
 use Rattle.access.specs.Memory.{entryAt, viewWith}
-use Rattle.record.specs.Memory.{recordAt, viewIn, withOwn, withControlWord, withRecord}
-use Rattle.record.proofs.LentMemory.{word-stands, own-stands, own-stored, control-stored}
+use Rattle.record.specs.Memory.{Memories, recordAt, viewIn, withOwn, withControlWord, withRecord}
+use Rattle.record.proofs.LentMemory.{store-same, word-stands, own-stands, own-stored, control-stored}
 use Rattle.message_operation.specs.declared.Decision.{Decision}
-use Rattle.message_operation.specs.Operation.{typeTable, rowIn, memoryAfter, decisionOn, Carries, CarriesRequest}
+use Rattle.message_operation.specs.Operation.{rowIn, seenIn, memoryAfter, decisionOn, alone, Carries}
 
 -- ---- what a test of x says of the t that x is
 
@@ -56,34 +58,34 @@ row-on b p h = lt-ltb (rowOf b p) rows h
 
 module _ (k : Kind) (v : View) (q : Query) where
   abbrev outcome : Outcome
-  outcome = firstOf Ok (typeTable v q k)
+  outcome = firstOf Ok (fromN4 v q k)
 
-  pub is-N4 : tooShort k q ≡ true → outcome ≡ N4
-  unfolding typeTable firstOf
+  is-N4 : tooShort k q ≡ true → outcome ≡ N4
+  unfolding fromN4 behindType firstOf
   is-N4 short = cond-true _ _ short
 
-  pub is-N5 : tooShort k q ≡ false → notOffered k ≡ true → outcome ≡ N5
-  unfolding typeTable firstOf
+  is-N5 : tooShort k q ≡ false → notOffered k ≡ true → outcome ≡ N5
+  unfolding fromN4 behindType firstOf
   is-N5 whole closed = rw (whole, closed)
 
   module _ (whole : tooShort k q ≡ false) (offered : notOffered k ≡ false) where
-    pub is-N6 : onBoard (v .board) (subjectOf q) ≡ false → outcome ≡ N6
-    unfolding typeTable firstOf
+    is-N6 : onBoard (v .board) (subjectOf q) ≡ false → outcome ≡ N6
+    unfolding fromN4 behindType firstOf
     is-N6 off = rw (whole, offered, off)
 
     module _ (on : onBoard (v .board) (subjectOf q) ≡ true) where
-      pub is-N7 : hasRight k v q ≡ false → outcome ≡ N7
-      unfolding typeTable firstOf
+      is-N7 : hasRight k v q ≡ false → outcome ≡ N7
+      unfolding fromN4 behindType firstOf
       is-N7 lacks = rw (whole, offered, on, lacks)
 
       module _ (right : hasRight k v q ≡ true) where
-        pub is-N8 : operandsGood k v q ≡ false → outcome ≡ N8
-        unfolding typeTable firstOf
+        is-N8 : operandsGood k v q ≡ false → outcome ≡ N8
+        unfolding fromN4 behindType firstOf
         is-N8 wrong = rw (whole, offered, on, right, wrong)
 
         -- what is left are the rows on status words
-        pub by-words : operandsGood k v q ≡ true → outcome ≡ firstOf Ok (byWords q k)
-        unfolding typeTable firstOf
+        by-words : operandsGood k v q ≡ true → outcome ≡ firstOf Ok (byWords q k)
+        unfolding fromN4 behindType firstOf
         by-words good = rw (whole, offered, on, right, good)
 
 -- ---- the rows as the code tests them
@@ -119,6 +121,11 @@ module _ {b : Board} {k : Kind} {q : Query} {access : List ℕ} {state : Record}
   unfolding carriedOut
   too-short short = record { comes = record { is = is-N4 k _ q (lt-ltb _ _ short) }; refused = refl; early = refl }
 
+  pub not-offered : sizeOf k ≤ length (q .message) → notOffered k ≡ true → Refused b k q access state N5
+  unfolding carriedOut
+  not-offered whole closed =
+      record { comes = record { is = is-N5 k _ q (le-ltb _ _ whole) closed }; refused = refl; early = refl }
+
   module _ {row : ℕ} (whole : sizeOf k ≤ length (q .message)) (offered : notOffered k ≡ false)
       (here : row ≡ rowOf b (processorOf (q .message))) where
     pub off-board : rows ≤ row → Refused b k q access state N6
@@ -142,11 +149,10 @@ module _ {b : Board} {k : Kind} {q : Query} {row : ℕ} {state : Record} (whole 
   loaded-at {memory} loaded = record { reached = reached (loaded ∙ ap (recordAt b memory) here) }
 
 module _ {b : Board} {k : Kind} {q : Query} {row : ℕ} {state state′ : Record} (r : Reached b k q row state state′) where
-  -- a test of the class that the code finds by the row
-  pub by-class : (good : ℕ → List ℕ → Bool) {class : ℕ} {y : Bool} → class ≡ classAt b row → y ≡ good class (q .message)
-      → y ≡ good (classOf b (subjectOf q)) (q .message)
+  -- the class that the code finds by the row
+  pub by-class : {class : ℕ} → class ≡ classAt b row → class ≡ classOf b (subjectOf q)
   unfolding classOf
-  by-class good found is = is ∙ ap (λ (n : ℕ). good n (q .message)) (found ∙ ap (classAt b) (r .here))
+  by-class found = found ∙ ap (classAt b) (r .here)
 
   module _ {access : List ℕ} where
     -- what the code sees comes to what the rules see
@@ -191,67 +197,99 @@ loaded-row : {b : Board} {k : Kind} {q : Query} {memory : List ℕ} {row : ℕ} 
 unfolding onBoard
 loaded-row {b} {q = q} l = subst⁻¹ (λ (n : ℕ). n < rows) (l .reached .here) (ltb-true (rowOf b (subjectOf q)) rows (l .reached .on))
 
-module _ {b : Board} {k : Kind} {access memory : List ℕ} {q : Query} where
+-- the outcome of a message of type k, and the record memory afterwards
+pub record Comes-to (k : Kind) (m : Memories) (q : Query) (records′ : List ℕ) (o : Outcome) : Type 0 where
+  pub is : o ≡ outcome k (seenIn m q) q
+  pub left : records′ ≡ memoryAfter (boardIn (m .board)) k o (m .records) q
+
+-- the board, and the record that a message sees
+abbrev pub boardHeld : Memories → Board
+boardHeld m = boardIn (m .board)
+
+abbrev pub recordSeen : Memories → Query → Record
+recordSeen m q = recordAt (boardHeld m) (m .records) (rowIn (boardHeld m) q)
+
+-- a type that changes no record leaves the memory
+pub keeps-records : (k : Kind) (m : Memories) (q : Query) → ((r : Record) → effectOf k q r ≡ r) → (o : Outcome)
+    → m .records ≡ memoryAfter (boardHeld m) k o (m .records) q
+unfolding memoryAfter
+keeps-records k m q same o =
+    let kept : withRecord (boardHeld m) (m .records) (rowIn (boardHeld m) q) (effectOf k q (recordSeen m q)) ≡ m .records =
+    ap (withRecord (boardHeld m) (m .records) (rowIn (boardHeld m) q)) (same (recordSeen m q)) ∙ store-same (boardHeld m) (m .records) (rowIn (boardHeld m) q)
+    in
+    ⊎-elim (λ t. sym (cond-true _ (m .records) t ∙ kept)) (λ f. sym (cond-false _ (m .records) f)) (decide (carriedOut o))
+
+module _ {k : Kind} {m : Memories} {q : Query} where
   -- a refusal leaves it
-  pub refuses : {o : Outcome} → Refused b k q access (recordAt b memory (rowIn b q)) o → Carries b k access memory q memory o
+  pub refuses : {o : Outcome} → Refused (boardHeld m) k q (m .access) (recordSeen m q) o → Comes-to k m q (m .records) o
   unfolding memoryAfter viewIn
-  refuses r = record { outcome = sym (r .comes .is); records = sym (cond-false _ _ (r .refused)) }
+  refuses r = record { is = sym (r .comes .is); left = sym (cond-false _ _ (r .refused)) }
 
   -- OK has its effect: for the types that look at no status word
   module _ {row : ℕ} {state next : Record} {memory′ : List ℕ} (get : isKind k GetStatus ≡ false) (wait : isKind k WaitStatus ≡ false)
-      (l : Loaded b k q memory row state) (comes : Admitted b k q access (recordAt b memory (rowIn b q))) (effect : next ≡ effectOf k q state) where
-    carries : memory′ ≡ withRecord b memory row next → Carries b k access memory q memory′ Ok
+      (l : Loaded (boardHeld m) k q (m .records) row state) (comes : Admitted (boardHeld m) k q (m .access) (recordSeen m q)) (effect : next ≡ effectOf k q state) where
+    carries : memory′ ≡ withRecord (boardHeld m) (m .records) row next → Comes-to k m q memory′ Ok
     unfolding memoryAfter carriedOut viewIn firstOf byWords wordsMissing waitFailed
     carries stored =
         record {
-          outcome = sym (comes .is ∙ rw (get, wait));
-          records = stored
-              ∙ ap (withRecord b memory row) (effect ∙ ap (effectOf k q) (l .reached .same))
-              ∙ ap (λ (n : ℕ). withRecord b memory n (effectOf k q (recordAt b memory (rowIn b q)))) (l .reached .here);
+          is = sym (comes .is ∙ rw (get, wait));
+          left = stored
+              ∙ ap (withRecord (boardHeld m) (m .records) row) (effect ∙ ap (effectOf k q) (l .reached .same))
+              ∙ ap (λ (n : ℕ). withRecord (boardHeld m) (m .records) n (effectOf k q (recordSeen m q))) (l .reached .here);
         }
 
     -- an effect that keeps the control word is stored in what is the processor's own, and one that keeps that in the control word
-    pub carries-own : ((r : Record) → effectOf k q r .control ≡ r .control) → memory′ ≡ withOwn memory row (ownOf next)
-        → Carries b k access memory q memory′ Ok
+    pub carries-own : ((r : Record) → effectOf k q r .control ≡ r .control) → memory′ ≡ withOwn (m .records) row (ownOf next) → Comes-to k m q memory′ Ok
     carries-own keeps stored =
         carries
-        (stored ∙ own-stored b memory row next (ap (λ (r : Record). r .control) effect ∙ keeps state ∙ ap (λ (r : Record). r .control) (loaded-is l) ∙ word-stands b memory row))
+        (stored ∙ own-stored (boardHeld m) (m .records) row next (ap (λ (r : Record). r .control) effect ∙ keeps state ∙ ap (λ (r : Record). r .control) (loaded-is l) ∙ word-stands (boardHeld m) (m .records) row))
 
-    pub carries-control : ((r : Record) → ownOf (effectOf k q r) ≡ ownOf r) → memory′ ≡ withControlWord memory (homeAt b row) (next .control)
-        → Carries b k access memory q memory′ Ok
+    pub carries-control : ((r : Record) → ownOf (effectOf k q r) ≡ ownOf r) → memory′ ≡ withControlWord (m .records) (homeAt (boardHeld m) row) (next .control)
+        → Comes-to k m q memory′ Ok
     carries-control keeps stored =
-        carries (stored ∙ control-stored b memory row next (ap ownOf effect ∙ keeps state ∙ ap ownOf (loaded-is l) ∙ own-stands b memory row (loaded-row l)))
+        carries (stored ∙ control-stored (boardHeld m) (m .records) row next (ap ownOf effect ∙ keeps state ∙ ap ownOf (loaded-is l) ∙ own-stands (boardHeld m) (m .records) row (loaded-row l)))
+
+  -- ---- what is decided
+
+  -- what carries this outcome is what the contract asks
+  pub decided : {records′ : List ℕ} {o : Outcome} {d : Decision} → d ≡ decisionOn k (seenIn m q) q o → Comes-to k m q records′ o → Carries k m q records′ d
+  unfolding decisionOn
+  decided {o = o} carried comes =
+      record {
+        decision = carried ∙ ap (decisionOn k (seenIn m q) q) (comes .is);
+        records = comes .left ∙ ap (λ (d : Decision). memoryAfter (boardHeld m) k (d .outcome) (m .records) q) (sym carried);
+      }
+
+  -- a type that is neither request nor wait reports the outcome alone
+  pub plainly : {records′ : List ℕ} {o : Outcome} → isKind k Request ≡ false → isKind k WaitStatus ≡ false → Comes-to k m q records′ o
+      → Carries k m q records′ (alone o)
+  unfolding decisionOn waited tellsRole
+  plainly unasked unwaited comes = decided (rw (unasked, unwaited)) comes
 
 -- ---- a request
 
-module _ {b : Board} {access memory memory′ : List ℕ} {q : Query} {o : Outcome} where
+module _ {m : Memories} {records′ : List ℕ} {q : Query} {o : Outcome} where
   -- it carries the role from N7 on
-  requests : {role : Role} {d : Decision} → Carries b Request access memory q memory′ o
-      → role ≡ cond (okOr N7 o) (senderRole (viewIn b access memory (rowIn b q)) q) None
+  requests : {role : Role} {d : Decision} → Comes-to Request m q records′ o
+      → role ≡ cond (okOr N7 o) (senderRole (seenIn m q) q) None
       → d ≡ record { outcome = o; checks = 0; micros = 0; role = role }
-      → CarriesRequest b access memory q memory′ d
+      → Carries Request m q records′ d
   unfolding decisionOn waited tellsRole
-  requests meets told is =
-      let v = viewIn b access memory (rowIn b q) in
-      let carried : _≡_ {A = Decision} _ (decisionOn Request v q o) = ap (λ (x : Role). record { outcome = o; checks = 0; micros = 0; role = x }) told in
-      record {
-        decision = is ∙ carried ∙ ap (decisionOn Request v q) (meets .outcome);
-        records = meets .records ∙ ap (λ (x : Decision). memoryAfter b Request (x .outcome) memory q) (sym is);
-      }
+  requests comes told is =
+      decided (is ∙ ap (λ (x : Role). record { outcome = o; checks = 0; micros = 0; role = x }) told) comes
 
-  pub requests-early : {d : Decision} → Carries b Request access memory q memory′ o → okOr N7 o ≡ false
-      → d ≡ record { outcome = o; checks = 0; micros = 0; role = None } → CarriesRequest b access memory q memory′ d
-  requests-early meets early is = requests meets (sym (cond-false _ None early)) is
+  pub requests-early : {d : Decision} → Comes-to Request m q records′ o → okOr N7 o ≡ false → d ≡ alone o → Carries Request m q records′ d
+  requests-early comes early is = requests comes (sym (cond-false _ None early)) is
 
   -- the role that the code has found by the row
-  pub requests-late : {row : ℕ} {state : Record} {role : Role} {d : Decision} → Loaded b Request q memory row state
-      → Carries b Request access memory q memory′ o
+  pub requests-late : {row : ℕ} {state : Record} {role : Role} {d : Decision} → Loaded (boardIn (m .board)) Request q (m .records) row state
+      → Comes-to Request m q records′ o
       → okOr N7 o ≡ true
-      → role ≡ roleOf b (entryAt access row) (q .channel)
+      → role ≡ roleOf (boardIn (m .board)) (entryAt (m .access) row) (q .channel)
       → d ≡ record { outcome = o; checks = 0; micros = 0; role = role }
-      → CarriesRequest b access memory q memory′ d
+      → Carries Request m q records′ d
   unfolding viewIn
-  requests-late l meets late found is =
-      requests meets
-      (found ∙ ap (λ (n : ℕ). roleOf b (entryAt access n) (q .channel)) (l .reached .here) ∙ sym (cond-true _ None late))
+  requests-late l comes late found is =
+      requests comes
+      (found ∙ ap (λ (n : ℕ). roleOf (boardIn (m .board)) (entryAt (m .access) n) (q .channel)) (l .reached .here) ∙ sym (cond-true _ None late))
       is

@@ -19,10 +19,11 @@ use Rattle.rules.specs.Wait.{ranOut, checksOf, microsOf}
 use Rattle.rules.specs.Outcome.{wordsMissing, waitFailed, byWords, carriedOut}
 use Rattle.rules.specs.Answer.{waited, tellsRole}
 use Rattle.rules.proofs.Tests.{cond-true, cond-false}
-use Rattle.access.specs.Memory.{viewWith}
+use Rattle.board.specs.Memory.{boardIn}
+use Rattle.record.specs.Memory.{Memories, recordAt, viewIn}
 use Rattle.message_operation.specs.declared.Decision.{Decision}
-use Rattle.message_operation.specs.Operation.{typeTable, rowIn, decisionOn, decisionBy}
-use Rattle.message_operation.proofs.Rows.{Comes, Refused, Admitted}
+use Rattle.message_operation.specs.Operation.{rowIn, seenIn, decisionOn, alone, Carries}
+use Rattle.message_operation.proofs.Rows.{Comes, Refused, Admitted, boardHeld, recordSeen, keeps-records, decided, plainly}
 
 -- ---- of any type
 
@@ -47,10 +48,11 @@ module _ {b : Board} {q : Query} {access : List ℕ} {state : Record} (past : Ad
   unfolding wordsMissing waitFailed
   a-word some = words-there past (or-false _ ∙ ne-eqb _ 0 some)
 
--- what the contract asks
-pub reads : {b : Board} {q : Query} {access : List ℕ} {state : Record} {o : Outcome} → Comes b GetStatus q access state o
-    → o ≡ firstOf Ok (typeTable (viewWith b access (rowIn b q) state) q GetStatus)
-reads comes = sym (comes .is)
+-- what the contract asks, whatever the records hold
+pub reads : {m : Memories} {q : Query} {o : Outcome} → Comes (boardHeld m) GetStatus q (m .access) (recordSeen m q) o
+    → Carries GetStatus m q (m .records) (alone o)
+unfolding viewIn
+reads {m} {q} {o} comes = plainly refl refl (record { is = sym (comes .is); left = keeps-records GetStatus m q (λ r. refl) o })
 
 -- ---- wait status
 
@@ -66,22 +68,25 @@ module _ {b : Board} {q : Query} {access : List ℕ} {state : Record} {w : Wait}
       subst (λ (v : Wait). Comes b WaitStatus q access state (cond (ranOut v (q .status)) N9 Ok)) (sym here)
       (words-there past (le-ltb _ _ (subst (λ (v : Wait). v .waits ≤ length (q .status)) here enough)))
 
--- a refusal reports no checks
-pub unwaits : {b : Board} {q : Query} {access : List ℕ} {state : Record} {o : Outcome} {d : Decision} → Refused b WaitStatus q access state o
-    → d ≡ record { outcome = o; checks = 0; micros = 0; role = None }
-    → d ≡ decisionBy WaitStatus (viewWith b access (rowIn b q) state) q
-unfolding decisionOn waited tellsRole
-unwaits r is = is ∙ rw (r .comes .is, r .refused, r .early)
-
 -- a wait that ended reports them, OK or N9
 ended : (out : Bool) → waited WaitStatus (cond out N9 Ok) ≡ true
 unfolding waited carriedOut
 ended true = refl
 ended false = refl
 
-pub waits : {b : Board} {q : Query} {access : List ℕ} {state : Record} {w : Wait} {d : Decision} → w ≡ waitIn (q .message)
-    → Comes b WaitStatus q access state (cond (ranOut w (q .status)) N9 Ok)
-    → d ≡ record { outcome = cond (ranOut w (q .status)) N9 Ok; checks = checksOf w (q .status); micros = microsOf w (q .status); role = None }
-    → d ≡ decisionBy WaitStatus (viewWith b access (rowIn b q) state) q
-unfolding decisionOn tellsRole
-waits {q} {w = w} here comes is = is ∙ rw (comes .is, ended (ranOut w (q .status)), here)
+-- a refusal reports no checks
+module _ {m : Memories} {q : Query} where
+  waits-to : {o : Outcome} {d : Decision} → Comes (boardHeld m) WaitStatus q (m .access) (recordSeen m q) o → d ≡ decisionOn WaitStatus (seenIn m q) q o → Carries WaitStatus m q (m .records) d
+  unfolding viewIn
+  waits-to {o} comes is = decided is (record { is = sym (comes .is); left = keeps-records WaitStatus m q (λ r. refl) o })
+
+  pub unwaits : {o : Outcome} {d : Decision} → Refused (boardHeld m) WaitStatus q (m .access) (recordSeen m q) o → d ≡ alone o → Carries WaitStatus m q (m .records) d
+  unfolding decisionOn waited tellsRole
+  unwaits r is = waits-to (r .comes) (is ∙ rw (r .refused, r .early))
+
+  pub waits : {w : Wait} {d : Decision} → w ≡ waitIn (q .message)
+      → Comes (boardHeld m) WaitStatus q (m .access) (recordSeen m q) (cond (ranOut w (q .status)) N9 Ok)
+      → d ≡ record { outcome = cond (ranOut w (q .status)) N9 Ok; checks = checksOf w (q .status); micros = microsOf w (q .status); role = None }
+      → Carries WaitStatus m q (m .records) d
+  unfolding decisionOn tellsRole
+  waits {w} here comes is = waits-to comes (is ∙ rw (ended (ranOut w (q .status)), here))

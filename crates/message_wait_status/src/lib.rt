@@ -1,18 +1,20 @@
 // Wait status. The function tests the rows of document 01's outcome table from N4 on, in its order; the
 // rows above are passed when it is called. No record changes, so it gets none.
-ghost use Prim.Native.Nat.{_+_, _*_};
+ghost use mathlib.Core.List.{List};
+ghost use Prim.Native.Nat.{ℕ, _+_, _*_};
 ghost use mathlib.Core.Path.{_≡_};
 ghost use mathlib.Core.Bool.{cond};
 ghost use Rattle.rules.specs.declared.Outcome.the-variants.{N9, Ok};
+ghost use Rattle.rules.specs.declared.Kind.the-variants.{WaitStatus};
 ghost use Rattle.rules.specs.declared.Role.the-variants.{None};
 ghost use Rattle.rules.specs.Wait.{ranOut, checksOf, microsOf};
-ghost use Rattle.board.specs.Memory.{boardIn};
-ghost use Rattle.message_operation.specs.Operation.{asked, WaitsForStatus};
+ghost use Rattle.rules.specs.Message.{query};
+ghost use Rattle.record.specs.Memory.{memories};
+ghost use Rattle.message_operation.specs.Operation.{Carries};
 use access_rights::is_permitted;
 use board::BoardMemory;
 use board::ROWS;
-use flags::wait_good;
-use message_fields::wait_in;
+use message_fields::WAIT_STATUS_BYTES;
 use message_operation::Decision;
 use message_operation::outcome_alone;
 use message_operation::row_in;
@@ -20,6 +22,8 @@ use rules::Outcome;
 use rules::Role;
 use rules::Wait;
 use wait::ending_check;
+use wait::wait_good;
+use wait::wait_in;
 
 // The microseconds of a wait: at most 65,280.
 fn micros(before: u8, delay: u8, checks: u8) -> u32
@@ -30,7 +34,12 @@ fn micros(before: u8, delay: u8, checks: u8) -> u32
 
 // What a wait comes to, OK or N9, with the checks that it really took.
 fn waited(w: Wait, status: &[u32]) -> Decision
-    ensures { λ r. ⌜ r ≡ record { outcome = cond (ranOut w (now (status .entry))) N9 Ok; checks = checksOf w (now (status .entry)); micros = microsOf w (now (status .entry)); role = None } ⌝ }
+    ensures { λ r. ⌜ r ≡ record {
+      outcome = cond (ranOut w (now (status .entry))) N9 Ok;
+      checks = checksOf w (now (status .entry));
+      micros = microsOf w (now (status .entry));
+      role = None;
+    } ⌝ }
 {
     let ended = ending_check(w, status);
     if ended == 0 {
@@ -58,9 +67,11 @@ pub fn wait_status(
     message: &[u8],
     status: &[u32],
 ) -> Decision
-    ensures { λ r. ⌜ WaitsForStatus (boardIn (now (board .entry))) (now (access .entry)) (asked channel (now (message .entry)) (now (status .entry))) r ⌝ }
+    ensures { λ r. ⌜ ((records : List ℕ) (room : ℕ) → Carries WaitStatus
+        (memories (now (board .entry)) (now (access .entry)) records)
+        (query channel (now (message .entry)) (now (status .entry)) room) records r) ⌝ }
 {
-    if message.len() < 29 {
+    if message.len() < WAIT_STATUS_BYTES {
         return outcome_alone(Outcome::N4);
     }
     let row = row_in(board, message);

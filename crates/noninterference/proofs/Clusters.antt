@@ -14,7 +14,7 @@ use Rattle.rules.specs.Substructure.{partsOf, namedIn, inTurn}
 use Rattle.rules.specs.AccessList.{noEntry, parts, entryTable, contentTable, listTable, verdictOf, entryIn, withPart, withParts, noEntries, entriesOf, hasEntry}
 use Rattle.rules.specs.Role.{namesHost, roleTable, roleOf, permitted}
 use Rattle.rules.specs.Message.{kindOf, namesProcessor, subjectOf, isAbout}
-use Rattle.rules.specs.Outcome.{senderWrong, wordsMissing, waitFailed, admission, byWords, outcomeTable, outcomeOf, carriedOut}
+use Rattle.rules.specs.Outcome.{senderWrong, wordsMissing, waitFailed, beforeType, onType, behindType, admission, byWords, outcomeTable, outcomeOf, carriedOut}
 use Rattle.rules.specs.Tally.{noTallies, countsFor, oneMore, tallyAfter, talliesAfter}
 use Rattle.rules.specs.Effect.{recordAfter}
 use Rattle.rules.specs.State.{listed, State, freeOwn, fresh, entryOf, recordIn, recordOf, viewOf, putIn, stored}
@@ -74,7 +74,7 @@ same-picks = refl
 
 -- and leave 32 different control words
 pub different-words : (recordOf (run start quiet) 32 .control ≡ 0) × (recordOf (run start disturbed) 32 .control ≡ 1)
-unfolding tableOf ours ourDescription listsProcessor markIn rowIn classIn sharedCluster sharedIn homeIn boardOf firstOf anyOf boardHost activeHost placeOf rowOf onBoard classAt classOf homeAt maskOf noEntry partsOf namedIn entryTable inTurn contentTable listTable verdictOf accepted entryIn withPart withParts noEntries entriesOf hasEntry namesHost roleTable roleOf permitted kindOf subjectOf senderWrong wordsMissing waitFailed admission byWords outcomeTable outcomeOf carriedOut countsFor oneMore tallyAfter talliesAfter recordAfter listed freeOwn noTallies fresh entryOf recordIn recordOf viewOf putIn stored verdictTo taken afterOffer afterMessage next run
+unfolding tableOf ours ourDescription listsProcessor markIn rowIn classIn sharedCluster sharedIn homeIn boardOf firstOf anyOf boardHost activeHost placeOf rowOf onBoard classAt classOf homeAt maskOf noEntry partsOf namedIn entryTable inTurn contentTable listTable verdictOf accepted entryIn withPart withParts noEntries entriesOf hasEntry namesHost roleTable roleOf permitted kindOf subjectOf senderWrong wordsMissing waitFailed beforeType onType behindType admission byWords outcomeTable outcomeOf carriedOut countsFor oneMore tallyAfter talliesAfter recordAfter listed freeOwn noTallies fresh entryOf recordIn recordOf viewOf putIn stored verdictTo taken afterOffer afterMessage next run
 different-words = (refl, refl)
 
 -- so demand 3 would be false of 32 alone

@@ -16,7 +16,7 @@ use Rattle.rules.specs.Board.{Board, rows}
 use Rattle.rules.specs.Tally.{countsFor, oneMore, tallyAfter, talliesAfter}
 use Rattle.rules.specs.Effect.{heldBy}
 use Rattle.rules.specs.State.{Own, ownOf}
-use Rattle.record.specs.Memory.{wordsOf, ownAt, recordAt, withOwn}
+use Rattle.record.specs.Memory.{ownWords, ownAt, recordAt, withOwn}
 use Rattle.record.proofs.LentMemory.{Stand, stand-on, sets-same, one-put, word-by, own-is, own-none, own-stands}
 use Rattle.record.specs.Holder.{heldOwn, withHolder}
 
@@ -62,10 +62,10 @@ module _ (m : List ℕ) (row h : ℕ) where
 
   module _ (inside : row < rows) where
     -- by the words that the rules leave at the row
-    held-is : (k : Kind) → wordsOf (heldOwn k h (ownAt m row)) ≡ h ∷ others → held ≡ withHolder k m row h
+    held-is : (k : Kind) → ownWords (heldOwn k h (ownAt m row)) ≡ h ∷ others → held ≡ withHolder k m row h
     held-is k words = sym (own-is m row (heldOwn k h (ownAt m row)) inside ∙ ap (sets m at) words ∙ none-counted)
 
-    tallied-is : (k : Kind) (j : ℕ) → j < 7 → wordsOf (heldOwn k h (ownAt m row)) ≡ h ∷ set others j (oneMore (getD m (at + suc j) 0)) → tallied (suc j) ≡ withHolder k m row h
+    tallied-is : (k : Kind) (j : ℕ) → j < 7 → ownWords (heldOwn k h (ownAt m row)) ≡ h ∷ set others j (oneMore (getD m (at + suc j) 0)) → tallied (suc j) ≡ withHolder k m row h
     tallied-is k j low words = sym (own-is m row (heldOwn k h (ownAt m row)) inside ∙ ap (sets m at) words ∙ one-counted j low)
 
     -- the first word of the row is n, or is not

@@ -21,7 +21,7 @@ use Rattle.rules.proofs.Tables.{table-length, table-here, table-past, table-bel
 use Rattle.rules.proofs.Homes.{home-small}
 use Rattle.access.specs.Memory.{listedIn, entryAt, entriesIn, someList, setupIn}
 use Rattle.access.proofs.Kept.{listed-some}
-use Rattle.record.specs.Memory.{ownBy, wordsOf, ownAt, controlPlace, controlAt, recordAt, recordsIn, stateIn, viewIn, withOwn, withControlWord, withRecord}
+use Rattle.record.specs.Memory.{recordSize, ownBy, ownWords, ownAt, controlPlace, controlAt, recordAt, recordsIn, stateIn, viewIn, withOwn, withControlWord, withRecord}
 
 -- ---- several words stored in a row
 
@@ -93,7 +93,7 @@ own-alike f g same =
       };
     }
 
-pub word-by : (f : ℕ → ℕ) (j : ℕ) → j < 8 → getD (wordsOf (ownBy f)) j 0 ≡ f j
+pub word-by : (f : ℕ → ℕ) (j : ℕ) → j < 8 → getD (ownWords (ownBy f)) j 0 ≡ f j
 word-by f zero h = refl
 word-by f (suc zero) h = refl
 word-by f (suc (suc zero)) h = refl
@@ -104,7 +104,7 @@ word-by f (suc (suc (suc (suc (suc (suc zero)))))) h = refl
 word-by f (suc (suc (suc (suc (suc (suc (suc zero))))))) h = refl
 word-by f (suc (suc (suc (suc (suc (suc (suc (suc j)))))))) h = absurd (omega arith)
 
-pub own-is : (m : List ℕ) (row : ℕ) (o : Own) → row < rows → withOwn m row o ≡ sets m (8 * row) (wordsOf o)
+pub own-is : (m : List ℕ) (row : ℕ) (o : Own) → row < rows → withOwn m row o ≡ sets m (8 * row) (ownWords o)
 unfolding withOwn
 own-is m row o h = cond-true _ m (lt-ltb row rows h)
 
@@ -114,7 +114,7 @@ own-none m row o past = cond-false _ m (le-ltb row rows past)
 
 own-length : (m : List ℕ) (row : ℕ) (o : Own) → length (withOwn m row o) ≡ length m
 own-length m row o =
-    ⊎-elim (λ t. ap length (own-is m row o (ltb-true row rows t)) ∙ length-sets m (8 * row) (wordsOf o))
+    ⊎-elim (λ t. ap length (own-is m row o (ltb-true row rows t)) ∙ length-sets m (8 * row) (ownWords o))
     (λ f. ap length (own-none m row o (ltb-false row rows f)))
     (decide (ltb row rows))
 
@@ -122,7 +122,7 @@ own-length m row o =
 own-beside : (m : List ℕ) (row : ℕ) (o : Own) (k : ℕ) → (k < 8 * row) ⊎ (8 * row + 8 ≤ k) → getD (withOwn m row o) k 0 ≡ getD m k 0
 own-beside m row o k out =
     ⊎-elim
-    (λ t. ap (λ (l : List ℕ). getD l k 0) (own-is m row o (ltb-true _ _ t)) ∙ sets-other (wordsOf o) m (8 * row) k out)
+    (λ t. ap (λ (l : List ℕ). getD l k 0) (own-is m row o (ltb-true _ _ t)) ∙ sets-other (ownWords o) m (8 * row) k out)
     (λ f. ap (λ (l : List ℕ). getD l k 0) (own-none m row o (ltb-false _ _ f)))
     (decide (ltb row rows))
 
@@ -139,15 +139,15 @@ own-kept m row =
     ⊎-elim
     (λ t.
     own-is m row (ownAt m row) (ltb-true row rows t)
-    ∙ sets-same (wordsOf (ownAt m row)) m (8 * row) (λ j h. word-by (λ (i : ℕ). getD m (8 * row + i) 0) j h))
+    ∙ sets-same (ownWords (ownAt m row)) m (8 * row) (λ j h. word-by (λ (i : ℕ). getD m (8 * row + i) 0) j h))
     (λ f. own-none m row (ownAt m row) (ltb-false row rows f))
     (decide (ltb row rows))
 
 module _ (m : List ℕ) (row : ℕ) (o : Own) where
-  own-same : length m ≡ 288 → row < rows → ownAt (withOwn m row o) row ≡ o
+  own-same : length m ≡ recordSize → row < rows → ownAt (withOwn m row o) row ≡ o
   own-same size h =
-      own-alike (λ (j : ℕ). getD (withOwn m row o) (8 * row + j) 0) (λ (j : ℕ). getD (wordsOf o) j 0)
-      (λ j k. ap (λ (l : List ℕ). getD l (8 * row + j) 0) (own-is m row o h) ∙ sets-at (wordsOf o) m (8 * row) j (omega arith) k)
+      own-alike (λ (j : ℕ). getD (withOwn m row o) (8 * row + j) 0) (λ (j : ℕ). getD (ownWords o) j 0)
+      (λ j k. ap (λ (l : List ℕ). getD l (8 * row + j) 0) (own-is m row o h) ∙ sets-at (ownWords o) m (8 * row) j (omega arith) k)
 
   -- the words of another row stand before it or behind it
   beside : (k j : ℕ) → (k ≡ row → ⊥) → j < 8 → (8 * k + j < 8 * row) ⊎ (8 * row + 8 ≤ 8 * k + j)
@@ -216,7 +216,7 @@ store-same b m row =
     (decide (ltb row rows))
 
 -- what is each row's own after a store, also where the row is not there
-own-rows : (m : List ℕ) (row : ℕ) (o : Own) → length m ≡ 288 → tableOf (ownAt (withOwn m row o)) 0 rows ≡ set (tableOf (ownAt m) 0 rows) row o
+own-rows : (m : List ℕ) (row : ℕ) (o : Own) → length m ≡ recordSize → tableOf (ownAt (withOwn m row o)) 0 rows ≡ set (tableOf (ownAt m) 0 rows) row o
 own-rows m row o size =
     ⊎-elim
     (λ t.
@@ -232,7 +232,7 @@ own-rows m row o size =
     (decide (ltb row rows))
 
 -- the records read after a store are the records before it with that one put there
-pub records-store : (b : Board) (m : List ℕ) (row : ℕ) (r : Record) → length m ≡ 288 → recordsIn (withRecord b m row r) ≡ putIn b (recordsIn m) row r
+pub records-store : (b : Board) (m : List ℕ) (row : ℕ) (r : Record) → length m ≡ recordSize → recordsIn (withRecord b m row r) ≡ putIn b (recordsIn m) row r
 unfolding recordsIn putIn withRecord
 records-store b m row r size =
     let home = homeAt b row in
@@ -249,7 +249,7 @@ records-store b m row r size =
     control-other left home (r .control) k (λ e. apart (e ∙ sym (zero-add home))) ∙ own-keeps-control m row (ownOf r) k)))
 
 -- so a record that was stored is read back
-pub record-same : (b : Board) (m : List ℕ) (row : ℕ) (r : Record) → length m ≡ 288 → row < rows → recordAt b (withRecord b m row r) row ≡ r
+pub record-same : (b : Board) (m : List ℕ) (row : ℕ) (r : Record) → length m ≡ recordSize → row < rows → recordAt b (withRecord b m row r) row ≡ r
 unfolding recordIn recordsIn putIn
 record-same b m row r size h =
     ap (λ (rs : Records). recordIn b rs row) (records-store b m row r size)
@@ -294,7 +294,7 @@ view-in b a m p la =
     }
 
 -- memory that is all zeros is a fresh manager, on any board
-pub zeros-fresh : (b : Board) → stateIn b (replicate 129 0) (replicate 288 0) ≡ fresh b
+pub zeros-fresh : (b : Board) → stateIn b (replicate 129 0) (replicate recordSize 0) ≡ fresh b
 unfolding stateIn setupIn someList listedIn entriesIn recordsIn tableOf entryAt fresh noEntries noEntry freeOwn noTallies
 zeros-fresh b = refl
 

@@ -1,4 +1,3 @@
--- What the lent record memory holds.
--- What a change of the controller leaves in the record memory.
+-- What the lent record memory holds, alone and with the other two, and what a change of the controller leaves in it.
 pub mod Memory
 pub mod Holder

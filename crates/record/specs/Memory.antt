@@ -11,7 +11,12 @@ use Rattle.rules.specs.Table.{tableOf}
 use Rattle.rules.specs.Board.{Board, rows, homeAt}
 use Rattle.rules.specs.Outcome.{View}
 use Rattle.rules.specs.State.{Own, Records, State, ownOf, recordIn}
+use Rattle.board.specs.Memory.{boardIn}
 use Rattle.access.specs.Memory.{setupIn, keptSetup, viewWith}
+
+-- how many words there are
+abbrev pub recordSize : ℕ
+recordSize = 288
 
 -- the place of a row's first word
 abbrev pub recordPlace : ℕ → ℕ
@@ -29,8 +34,8 @@ ownBy word =
     }
 
 -- those words
-abbrev pub wordsOf : Own → List ℕ
-wordsOf o =
+abbrev pub ownWords : Own → List ℕ
+ownWords o =
     o .controller
     ∷ o .low
     ∷ o .high
@@ -63,6 +68,18 @@ recordAt b m row = recordIn b (recordsIn m) row
 unfoldable pub stateIn : Board → List ℕ → List ℕ → State
 stateIn b access records = record { setup = setupIn b access; records = recordsIn records }
 
+-- the board memory, the access memory and the record memory as they are lent, and the rules' state that they hold
+pub record Memories : Type 0 where
+  pub board : List ℕ
+  pub access : List ℕ
+  pub records : List ℕ
+
+abbrev pub memories : List ℕ → List ℕ → List ℕ → Memories
+memories board access records = record { board = board; access = access; records = records }
+
+abbrev pub stateOf : Memories → State
+stateOf m = stateIn (boardIn (m .board)) (m .access) (m .records)
+
 -- what the memories keep of a state: all but the bytes of the accepted list
 unfoldable pub kept : State → State
 kept s = record { setup = keptSetup (s .setup); records = s .records }
@@ -73,7 +90,7 @@ viewIn b access records row = viewWith b access row (recordAt b records row)
 
 -- the record memory with what is a processor's own put at its row; a row that is not there is left alone
 unfoldable pub withOwn : List ℕ → ℕ → Own → List ℕ
-withOwn m row own = cond (ltb row rows) (sets m (recordPlace row) (wordsOf own)) m
+withOwn m row own = cond (ltb row rows) (sets m (recordPlace row) (ownWords own)) m
 
 -- with a control word put at a home
 abbrev pub withControlWord : List ℕ → ℕ → ℕ → List ℕ

@@ -1,5 +1,5 @@
-// The processors' records: one record by value, out of the lent record memory. Its layout is
-// specs/Memory.antt; any content of it is a state. What puts a record back is in crate record_stores.
+// The record memory: the processors' records read and written, and the tallies of a change of controller. Its
+// layout is specs/Memory.antt; any content is a state.
 mod store;
 mod tally;
 
@@ -13,7 +13,7 @@ ghost use mathlib.Core.Path.{_≡_};
 ghost use lib.ListN.{getD};
 ghost use Rattle.rules.specs.Board.{homeAt};
 ghost use Rattle.board.specs.Memory.{boardIn};
-ghost use Rattle.record.specs.Memory.{ownAt, controlPlace, recordAt};
+ghost use Rattle.record.specs.Memory.{recordSize, ownAt, controlPlace, recordAt};
 use board::BoardMemory;
 use board::ROWS;
 use board::home_at;
@@ -46,8 +46,8 @@ const RELEASES: usize = 7;
 const CONTROLS: usize = 256;
 
 // The place of the control word of the processor at `row`: at its home, which its cluster shares.
-pub fn control_place(board: &BoardMemory, row: u8) -> usize
-    ensures { λ r. ⌜ (r ≡ controlPlace (homeAt (boardIn (now (board .entry))) row)) × (r < 288) ⌝ }
+pub(crate) fn control_place(board: &BoardMemory, row: u8) -> usize
+    ensures { λ r. ⌜ (r ≡ controlPlace (homeAt (boardIn (now (board .entry))) row)) × (r < recordSize) ⌝ }
 {
     CONTROLS + home_at(board, row) as usize
 }
@@ -63,7 +63,7 @@ fn word_at(records: &[u32], i: usize) -> u32
 }
 
 // The tallies at `row`.
-fn load_tallies(records: &[u32], row: u8) -> Tallies
+fn tallies_at(records: &[u32], row: u8) -> Tallies
     ensures { λ r. ⌜ r ≡ ownAt (now (records .entry)) row .tallies ⌝ }
 {
     let at = ROW_WORDS * (row as usize);
@@ -76,7 +76,7 @@ fn load_tallies(records: &[u32], row: u8) -> Tallies
 }
 
 // The record at `row`. At a row that is not there all is 0 but the control word.
-pub fn load(board: &BoardMemory, records: &[u32], row: u8) -> Record
+pub fn record_at(board: &BoardMemory, records: &[u32], row: u8) -> Record
     ensures { λ r. ⌜ r ≡ recordAt (boardIn (now (board .entry))) (now (records .entry)) row ⌝ }
 {
     let control = word_at(records, control_place(board, row));
@@ -88,7 +88,7 @@ pub fn load(board: &BoardMemory, records: &[u32], row: u8) -> Record
             high: word_at(records, at + HIGH),
             config: word_at(records, at + CONFIG),
             control,
-            tallies: load_tallies(records, row),
+            tallies: tallies_at(records, row),
         };
     }
     Record {

@@ -1,5 +1,4 @@
-// The processors' records put back into the lent record memory: what is a processor's own, and the control
-// word apart from it. The memory and its layout are those of crate records.
+// A record put back into the record memory: what is a processor's own, and the control word apart from it.
 ghost use mathlib.Core.Path.{_≡_};
 ghost use Rattle.rules.specs.Board.{homeAt};
 ghost use Rattle.rules.specs.State.{ownOf};

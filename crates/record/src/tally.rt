@@ -6,6 +6,7 @@ ghost use mathlib.Core.Path.{_≡_};
 ghost use lib.ListN.{getD, set};
 ghost use Rattle.rules.specs.declared.Kind.the-variants.{Request, Release, Handover};
 ghost use Rattle.rules.specs.Tally.{oneMore};
+ghost use Rattle.record.specs.Memory.{recordSize};
 ghost use Rattle.record.specs.Holder.{withHolder};
 use crate::GRANTS;
 use crate::HANDOVERS;
@@ -20,7 +21,7 @@ const CAP: u32 = 4_294_967_295;
 
 // One more in the tally at place `at`, up to the cap.
 fn count(records: &mut RecordMemory, at: usize)
-    requires { ⌜ at < 288 ⌝ }
+    requires { ⌜ at < recordSize ⌝ }
     ensures { λ _. ⌜ now (records .exit) ≡ set (now (records .entry)) at (oneMore (getD (now (records .entry)) at 0)) ⌝ }
 {
     let tally = records[at];

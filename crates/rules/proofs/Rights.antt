@@ -18,7 +18,7 @@ use Rattle.rules.specs.Board.{Board, activeHost, onBoard}
 use Rattle.rules.specs.AccessList.{Entry}
 use Rattle.rules.specs.Role.{roleOf, isMaster, permits, permitted}
 use Rattle.rules.specs.Message.{Query, hostOf, kindIn, sizeOf, namesProcessor, subjectOf, isAbout}
-use Rattle.rules.specs.Outcome.{View, senderWrong, typeUnknown, tooShort, notOffered, isFree, isController, mayRequest, hasRight, operandsGood, admission, byWords, outcomeTable, outcomeOf, carriedOut}
+use Rattle.rules.specs.Outcome.{View, senderWrong, typeUnknown, tooShort, notOffered, isFree, isController, mayRequest, hasRight, operandsGood, beforeType, onType, behindType, admission, byWords, outcomeTable, outcomeOf, carriedOut}
 use Rattle.rules.specs.Effect.{effectOf, recordAfter}
 use Rattle.rules.proofs.Permission.{master-permits}
 use Rattle.rules.proofs.Tests.{decide, clash, and-left, and-right, and-both, or-cases, or-right, or-false-left, cond-true, cond-false, cleared, passed, firstOf-append}
@@ -39,7 +39,7 @@ pub record Allowed (v : View) (q : Query) (k : Kind) : Type 0 where
 module _ (v : View) (q : Query) where
   -- whatever is decided below these rows
   pub admitted-allowed : (k : Kind) (below : Outcome) → carriedOut (firstOf below (admission v q k)) ≡ true → Allowed v q k
-  unfolding admission carriedOut
+  unfolding beforeType onType behindType admission carriedOut
   admitted-allowed k below ok =
       let r1 = passed carriedOut below _ _ _ refl ok in
       let r2 = passed carriedOut below _ _ _ refl r1 in

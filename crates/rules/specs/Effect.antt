@@ -1,7 +1,6 @@
 -- "Effect of OK": what each type leaves in the record of the processor it names; all other outcomes change no record.
 use Prim.Native.Nat.{ℕ}
 use mathlib.Core.Bool.{cond}
-use mathlib.Core.List.{List}
 use Rattle.rules.specs.declared.Kind.{Kind}
 use Rattle.rules.specs.declared.Kind.the-variants.{Request, Release, Handover, SetConfig, SetControl, AuthBoot, GetStatus, WaitStatus, Other}
 use Rattle.rules.specs.declared.Record.{Record}
@@ -17,25 +16,26 @@ heldBy h tallies r =
     record { controller = h; low = r .low; high = r .high; config = r .config; control = r .control; tallies = tallies }
 
 -- set config: the word, and the vector unless bit 28 is named
-abbrev pub withConfig : List ℕ → Record → Record
-withConfig m r =
+abbrev pub withConfig : ℕ → ℕ → ℕ → ℕ → Record → Record
+withConfig low high set clear r =
     record {
       controller = r .controller;
-      low = cond (keepsVector (configClearOf m)) (r .low) (vectorLowOf m);
-      high = cond (keepsVector (configClearOf m)) (r .high) (vectorHighOf m);
-      config = newWord (r .config) (configSetOf m) (configClearOf m);
+      low = cond (keepsVector clear) (r .low) low;
+      high = cond (keepsVector clear) (r .high) high;
+      config = newWord (r .config) set clear;
       control = r .control;
       tallies = r .tallies;
     }
 
-abbrev pub withControl : List ℕ → Record → Record
-withControl m r =
+-- set control: the word alone
+abbrev pub withControl : ℕ → ℕ → Record → Record
+withControl set clear r =
     record {
       controller = r .controller;
       low = r .low;
       high = r .high;
       config = r .config;
-      control = newWord (r .control) (controlSetOf m) (controlClearOf m);
+      control = newWord (r .control) set clear;
       tallies = r .tallies;
     }
 
@@ -45,8 +45,9 @@ abbrev pub effectOf : Kind → Query → Record → Record
 effectOf Request q r = heldBy (q .channel) (talliesAfter Request (q .channel) r) r
 effectOf Release q r = heldBy 0 (talliesAfter Release 0 r) r
 effectOf Handover q r = heldBy (newHostOf (q .message)) (talliesAfter Handover (newHostOf (q .message)) r) r
-effectOf SetConfig q r = withConfig (q .message) r
-effectOf SetControl q r = withControl (q .message) r
+effectOf SetConfig q r =
+    withConfig (vectorLowOf (q .message)) (vectorHighOf (q .message)) (configSetOf (q .message)) (configClearOf (q .message)) r
+effectOf SetControl q r = withControl (controlSetOf (q .message)) (controlClearOf (q .message)) r
 effectOf AuthBoot q r = r
 effectOf GetStatus q r = r
 effectOf WaitStatus q r = r

@@ -28,6 +28,10 @@ flagsGood class word set clear =
 abbrev pub vectorGood : ℕ → ℕ → Bool
 vectorGood class low = not (eqb class r5) || eqb (low % 128) 0
 
+-- the flags of set config, and its vector unless bit 28 is named
+abbrev pub configGood : ℕ → ℕ → ℕ → ℕ → Bool
+configGood class low set clear = flagsGood class configWord set clear && (keepsVector clear || vectorGood class low)
+
 -- the old word with the set bits added and the clear bits removed
 abbrev pub newWord : ℕ → ℕ → ℕ → ℕ
 newWord old set clear = bitAnd (bitOr old set) (4294967295 - clear)

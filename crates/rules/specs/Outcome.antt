@@ -12,11 +12,11 @@ use Rattle.rules.specs.declared.Outcome.the-variants.{R1, R2, N1, N2, N3
 use Rattle.rules.specs.declared.Record.{Record}
 use Rattle.rules.specs.declared.Role.{Role}
 use Rattle.rules.specs.Table.{Line, _gives_, firstOf}
-use Rattle.rules.specs.Board.{Board, activeHost, onBoard, classOf, configWord, controlWord}
+use Rattle.rules.specs.Board.{Board, activeHost, onBoard, classOf, controlWord}
 use Rattle.rules.specs.AccessList.{Entry}
 use Rattle.rules.specs.Role.{roleOf, isMaster, permits, permitted}
 use Rattle.rules.specs.Message.{Query, hostOf, isKind, kindIn, sizeOf, subjectOf, newHostOf, vectorLowOf, configSetOf, configClearOf, controlSetOf, controlClearOf, waitIn}
-use Rattle.rules.specs.Flags.{keepsVector, flagsGood, vectorGood}
+use Rattle.rules.specs.Flags.{flagsGood, configGood}
 use Rattle.rules.specs.Wait.{waitGood, ranOut}
 
 -- what a message call sees of the state: the board, whether a list was accepted, and the entry and the record of the processor named
@@ -85,20 +85,14 @@ hasRight Other v q = false
 
 -- ---- the operands (N8)
 
-abbrev pub configGood : ℕ → List ℕ → Bool
-configGood class m =
-    flagsGood class configWord (configSetOf m) (configClearOf m)
-    && (keepsVector (configClearOf m) || vectorGood class (vectorLowOf m))
-
-abbrev pub controlGood : ℕ → List ℕ → Bool
-controlGood class m = flagsGood class controlWord (controlSetOf m) (controlClearOf m)
-
 abbrev pub operandsGood : Kind → View → Query → Bool
 operandsGood Request v q = true
 operandsGood Release v q = true
 operandsGood Handover v q = permitted (v .board) (v .entry) (newHostOf (q .message))
-operandsGood SetConfig v q = configGood (classOf (v .board) (subjectOf q)) (q .message)
-operandsGood SetControl v q = controlGood (classOf (v .board) (subjectOf q)) (q .message)
+operandsGood SetConfig v q =
+    configGood (classOf (v .board) (subjectOf q)) (vectorLowOf (q .message)) (configSetOf (q .message)) (configClearOf (q .message))
+operandsGood SetControl v q =
+    flagsGood (classOf (v .board) (subjectOf q)) controlWord (controlSetOf (q .message)) (controlClearOf (q .message))
 operandsGood AuthBoot v q = true
 operandsGood GetStatus v q = true
 operandsGood WaitStatus v q = waitGood (waitIn (q .message))
@@ -116,26 +110,46 @@ wordsMissing k q =
 unfoldable pub waitFailed : Kind → Query → Bool
 waitFailed k q = isKind k WaitStatus && ranOut (waitIn (q .message)) (q .status)
 
--- ---- the table
+-- ---- the table, in four parts
 
--- its rows R1 to N8, which say whether a message is admitted
-unfoldable pub admission : View → Query → Kind → List (Line Outcome)
-admission v q k =
+-- before the type: R1 to N2
+unfoldable pub beforeType : Board → Bool → Query → List (Line Outcome)
+beforeType b listed q =
     (roomTooSmall q gives R1)
     ∷ (lengthWrong q gives R2)
-    ∷ (not (v .listed) gives N1)
-    ∷ (senderWrong (v .board) q gives N2)
-    ∷ (typeUnknown k gives N3)
-    ∷ (tooShort k q gives N4)
+    ∷ (not listed gives N1)
+    ∷ (senderWrong b q gives N2)
+    ∷ []
+
+-- the type: N3
+unfoldable pub onType : Kind → List (Line Outcome)
+onType k = (typeUnknown k gives N3) ∷ []
+
+-- behind the type: N4 to N8
+unfoldable pub behindType : View → Query → Kind → List (Line Outcome)
+behindType v q k =
+    (tooShort k q gives N4)
     ∷ (notOffered k gives N5)
     ∷ (offBoard (v .board) q gives N6)
     ∷ (not (hasRight k v q) gives N7)
     ∷ (not (operandsGood k v q) gives N8)
     ∷ []
 
--- its rows R3 and N9, for a message that is admitted
+-- by the status words: R3 and N9
 unfoldable pub byWords : Query → Kind → List (Line Outcome)
 byWords q k = (wordsMissing k q gives R3) ∷ (waitFailed k q gives N9) ∷ []
+
+-- R1 to N8 say whether a message is admitted
+unfoldable pub admission : View → Query → Kind → List (Line Outcome)
+admission v q k = beforeType (v .board) (v .listed) q ++ (onType k ++ behindType v q k)
+
+-- the rows that a message of a known type comes to: from N4 on
+unfoldable pub fromN4 : View → Query → Kind → List (Line Outcome)
+fromN4 v q k = behindType v q k ++ byWords q k
+
+-- and of any type: from N3 on
+unfoldable pub fromType : View → Query → Kind → List (Line Outcome)
+fromType v q k = onType k ++ fromN4 v q k
 
 unfoldable pub outcomeTable : View → Query → Kind → List (Line Outcome)
 outcomeTable v q k = admission v q k ++ byWords q k

@@ -15,7 +15,7 @@ use Rattle.rules.specs.Substructure.{partsOf, namedIn, inTurn}
 use Rattle.rules.specs.AccessList.{noEntry, entryTable, contentTable, listTable, verdictOf, entryIn, withPart, withParts, noEntries, entriesOf, hasEntry}
 use Rattle.rules.specs.Role.{namesHost, roleTable, roleOf, permitted}
 use Rattle.rules.specs.Message.{answerAsked, kindOf, waitIn, subjectOf, namesProcessor, isAbout}
-use Rattle.rules.specs.Outcome.{senderWrong, wordsMissing, waitFailed, admission, byWords, outcomeTable, outcomeOf, carriedOut, silent}
+use Rattle.rules.specs.Outcome.{senderWrong, wordsMissing, waitFailed, beforeType, onType, behindType, admission, byWords, outcomeTable, outcomeOf, carriedOut, silent}
 use Rattle.rules.specs.Tally.{grants, noTallies, tallyOf, countsFor, oneMore, tallyAfter, talliesAfter}
 use Rattle.rules.specs.Effect.{recordAfter}
 use Rattle.rules.specs.Answer.{ackBytes, bytesFor, answerBytes, answerOf, waited, tellsRole, reportOf}
@@ -82,7 +82,7 @@ request-step =
 
 bench-answered : MessageCall ours (accessAfter ours (replicate 129 0) benchList) (replicate 288 0) asked heldRecords (header 0x00 0xC0 3 2 ++ replicate 21 0xFF)
     (record { outcome = Ok; checks = 0; micros = 0; written = 8; role = Master })
-unfolding tableOf ours ourDescription listsProcessor markIn rowIn classIn sharedCluster sharedIn homeIn boardOf firstOf anyOf boardHost activeHost placeOf rowOf onBoard classAt classOf homeAt noEntry partsOf namedIn entryTable inTurn contentTable listTable verdictOf accepted entryIn withPart withParts noEntries entriesOf hasEntry namesHost roleTable roleOf permitted answerAsked kindOf waitIn subjectOf senderWrong wordsMissing waitFailed admission byWords outcomeTable outcomeOf carriedOut silent countsFor oneMore tallyAfter talliesAfter recordAfter ackBytes bytesFor answerBytes answerOf waited tellsRole reportOf listed freeOwn noTallies entryOf recordIn recordOf viewOf putIn stored afterMessage answerTo next listedIn entryAt entriesIn someList setupIn wordsOf accessBy accessAfter recordsIn stateIn
+unfolding tableOf ours ourDescription listsProcessor markIn rowIn classIn sharedCluster sharedIn homeIn boardOf firstOf anyOf boardHost activeHost placeOf rowOf onBoard classAt classOf homeAt noEntry partsOf namedIn entryTable inTurn contentTable listTable verdictOf accepted entryIn withPart withParts noEntries entriesOf hasEntry namesHost roleTable roleOf permitted answerAsked kindOf waitIn subjectOf senderWrong wordsMissing waitFailed beforeType onType behindType admission byWords outcomeTable outcomeOf carriedOut silent countsFor oneMore tallyAfter talliesAfter recordAfter ackBytes bytesFor answerBytes answerOf waited tellsRole reportOf listed freeOwn noTallies entryOf recordIn recordOf viewOf putIn stored afterMessage answerTo next listedIn entryAt entriesIn someList setupIn wordsOf accessBy accessAfter recordsIn stateIn
 bench-answered = record { report = refl; records = refl; buffer = refl }
 
 pub bench-trace : Trace listed-memories (request-step ∷ [])
@@ -109,5 +109,5 @@ on-the-cluster = of-the-code ours clusterList (32 ∷ 33 ∷ []) refl refl
 
 -- document 02, L10: by the theorem of the tallies the code has counted one grant
 pub grant-counted : tallyOf grants (leftIn ours listed-memories (request-step ∷ []) 1) ≡ 1
-unfolding tableOf ours ourDescription listsProcessor markIn rowIn classIn sharedCluster sharedIn homeIn boardOf firstOf anyOf boardHost activeHost placeOf rowOf onBoard classAt classOf homeAt noEntry partsOf namedIn entryTable inTurn contentTable listTable verdictOf accepted entryIn withPart withParts noEntries entriesOf hasEntry namesHost roleTable roleOf permitted kindOf namesProcessor isAbout subjectOf senderWrong wordsMissing waitFailed admission byWords outcomeTable outcomeOf carriedOut countsFor recordAfter listed freeOwn noTallies fresh entryOf recordIn recordOf viewOf verdictTo taken afterOffer callOf callsOf counts countOf
+unfolding tableOf ours ourDescription listsProcessor markIn rowIn classIn sharedCluster sharedIn homeIn boardOf firstOf anyOf boardHost activeHost placeOf rowOf onBoard classAt classOf homeAt noEntry partsOf namedIn entryTable inTurn contentTable listTable verdictOf accepted entryIn withPart withParts noEntries entriesOf hasEntry namesHost roleTable roleOf permitted kindOf namesProcessor isAbout subjectOf senderWrong wordsMissing waitFailed beforeType onType behindType admission byWords outcomeTable outcomeOf carriedOut countsFor recordAfter listed freeOwn noTallies fresh entryOf recordIn recordOf viewOf verdictTo taken afterOffer callOf callsOf counts countOf
 grant-counted = warranty-of-the-code ours benchList .counted bench-loaded bench-trace grants 1

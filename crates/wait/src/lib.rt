@@ -1,14 +1,61 @@
-// Waiting on the status words: when a word matches four masks, and the first check that ends a run
-// of matching words in a row. The rules are rules/specs/Wait.antt.
+// A wait as a value: its operands out of a message, whether they are right, when a status word matches, and
+// the first check that ends a run of matching words in a row. The rules are rules/specs/Wait.antt.
 ghost use mathlib.Core.Path.{_≡_};
 ghost use mathlib.Core.Bool.{cond};
 ghost use Prim.Native.Nat.{suc, _<_};
-ghost use Rattle.rules.specs.Wait.{wordMatches, endingCheck};
+ghost use Rattle.rules.specs.Message.{waitIn};
+ghost use Rattle.rules.specs.Wait.{waitGood, wordMatches, endingCheck};
 use rules::Wait;
+use wire::byte_at;
+use wire::u32_at;
+
+// The places of a wait's operands in its message.
+const WAITS: usize = 9;
+
+const MATCHES: usize = 10;
+
+const DELAY: usize = 11;
+
+const BEFORE: usize = 12;
+
+const SET_ALL: usize = 13;
+
+const SET_ANY: usize = 17;
+
+const CLEAR_ALL: usize = 21;
+
+const CLEAR_ANY: usize = 25;
+
+// The operands of a wait.
+pub fn wait_in(message: &[u8]) -> Wait
+    ensures { λ r. ⌜ r ≡ waitIn (now (message .entry)) ⌝ }
+{
+    Wait {
+        waits: byte_at(message, WAITS),
+        matches: byte_at(message, MATCHES),
+        delay: byte_at(message, DELAY),
+        before: byte_at(message, BEFORE),
+        allset: u32_at(message, SET_ALL),
+        anyset: u32_at(message, SET_ANY),
+        allclear: u32_at(message, CLEAR_ALL),
+        anyclear: u32_at(message, CLEAR_ANY),
+    }
+}
+
+// Whether a wait asks for at least one check and one match, for no more matches than checks, with at
+// least one mask. Matches of 1 or more that are not above the checks leave at least one check.
+pub fn wait_good(w: Wait) -> bool
+    ensures { λ r. ⌜ r ≡ waitGood w ⌝ }
+{
+    if (w.matches == 0) | (w.waits < w.matches) {
+        return false;
+    }
+    !((w.allset == 0) & (w.anyset == 0) & (w.allclear == 0) & (w.anyclear == 0))
+}
 
 // Whether a status word matches. Most words of a long wait fail the first test, so each returns at
 // once.
-pub fn word_matches(w: Wait, word: u32) -> bool
+fn word_matches(w: Wait, word: u32) -> bool
     ensures { λ r. ⌜ r ≡ wordMatches w word ⌝ }
 {
     if (word & w.allset) != w.allset {

@@ -2,6 +2,7 @@
 use mathlib.Core.Path.{_≡_, sym, ap, _∙_}
 use lib.ListN.{length}
 use denote.Ref.{now}
+use Rattle.record.specs.Memory.{recordSize}
 use Rattle.call_message.proofs.EachCall.{memory-length, message-call}
 use borrow.Author.Needs.{needs}
 use Rattle.call_message.proofs.message.Statement.{statement}
@@ -12,9 +13,9 @@ returns c =
     let a = c .before .before .before .before .before .before .before .before .before .before .before .before .args in
     let d = c .before .before .before .before .before .before in
     let la : length (now (a .access)) ≡ 129 = search needs in
-    let left : length (d .decide .last .1 .1 .0) ≡ 288 = search needs in
-    let lm : length (now (a .records)) ≡ 288 = sym (memory-length _ _ _ (now (a .records)) _) ∙ sym (ap length (d .decide .ensures .records)) ∙ left in
-    message-call _ (now (a .access)) (now (a .records)) (a .channel) (now (a .message)) (now (a .status)) (now (a .answer)) la lm
+    let left : length (d .decide .last .1 .1 .0) ≡ recordSize = search needs in
+    let lm : length (now (a .records)) ≡ recordSize = sym (memory-length _ _ _ (now (a .records)) _) ∙ sym (ap length (d .decide .ensures .records)) ∙ left in
+    message-call (now (a .board)) (now (a .access)) (now (a .records)) (a .channel) (now (a .message)) (now (a .status)) (now (a .answer)) la lm
     (d .decide .result) (c .before .before .write-answer .result) _ _
     (d .decide .ensures)
     (c .before .before .write-answer .ensures)

@@ -22,7 +22,7 @@ returns-2 c =
     let asked = sym (c .before .before .before .before .before .before .before .before .before .before .before .before .before .before .answer-asked .ensures) ∙ not-false _ (c .before .before .before .before .before .before .before .before .before .before .before .before .before .if1 .left) in
     let is = told-kind m (c .before .before .before .before .before .before .before .before .before .before .before .kind-of .ensures) (c .before .before .before .before .before .before .before .before .before .before .before .before .u16-at .ensures) (c .before .before .before .before .before .before .before .before .before .enum-told .given .1) in
     puts-given (now (a .answer)) _ _ _ _
-    ((rw (c .before .before .before .before .before .before .status-now .ensures, c .before .before .before .before .before .before .before .load .ensures, c .before .before .before .before .before .before .before .before .row-in .ensures) at (c .before .before .before .before .before .status-answer .ensures))
+    ((rw (c .before .before .before .before .before .before .status-now .ensures, c .before .before .before .before .before .before .before .record-at .ensures, c .before .before .before .before .before .before .before .before .row-in .ensures) at (c .before .before .before .before .before .status-answer .ensures))
     ∙ sym (bytes-status _ _ asked is))
     (c .before .before .put .ensures)
 
