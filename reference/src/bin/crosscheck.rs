@@ -6,15 +6,16 @@ use std::process::ExitCode;
 use std::time::{SystemTime, UNIX_EPOCH};
 
 use pomrozek_reference::bench::cases;
-use pomrozek_reference::harness::cases::{recording_of, run_case, Model};
-use pomrozek_reference::harness::coverage::Coverage;
-use pomrozek_reference::harness::edges::edge_recordings;
-use pomrozek_reference::harness::library::{
+use pomrozek_reference::harness::compare::calls::Model;
+use pomrozek_reference::harness::compare::cases::{recording_of, run_case};
+use pomrozek_reference::harness::compare::library::{
     compare_blocks, compare_boards, compare_lists, compare_messages, compare_starts, StaticLibrary,
 };
-use pomrozek_reference::harness::long_sessions::compare_sessions;
-use pomrozek_reference::harness::program::{first_difference, keep, run};
-use pomrozek_reference::harness::recordings::recording;
+use pomrozek_reference::harness::compare::long_sessions::compare_sessions;
+use pomrozek_reference::harness::compare::program::{first_difference, keep, run};
+use pomrozek_reference::harness::coverage::Coverage;
+use pomrozek_reference::harness::edges::recordings::edge_recordings;
+use pomrozek_reference::harness::generate::recordings::recording;
 
 const USAGE: &str = "usage: crosscheck --replay PROGRAM [--seed N] [--recordings N]";
 

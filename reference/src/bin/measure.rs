@@ -5,7 +5,7 @@
 use std::io::{self, BufWriter};
 use std::process::ExitCode;
 
-use pomrozek_reference::harness::timing::{write_timing_recording, TimedBoard};
+use pomrozek_reference::harness::generate::timing::{write_timing_recording, TimedBoard};
 
 const USAGE: &str = "usage: measure [messages] [full]";
 

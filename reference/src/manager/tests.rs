@@ -4,10 +4,10 @@
 use super::*;
 use crate::access::{row_words_mut, ACCESS_WORDS, ROLES};
 use crate::bench::bytes_of;
-use crate::harness::drafts::{draft, Draft, Scene};
-use crate::harness::goals::goals;
-use crate::harness::memories::{any_access, any_board, any_records};
-use crate::harness::random::Random;
+use crate::harness::generate::drafts::{draft, Draft, Scene};
+use crate::harness::generate::goals::goals;
+use crate::harness::generate::memories::{any_access, any_board, any_records};
+use crate::harness::generate::random::Random;
 use crate::message::{Kind, MSG_PROC_REQUEST};
 use crate::record::RECORD_WORDS;
 

@@ -2,7 +2,7 @@
 
 use super::*;
 use crate::bench::{bench_block, bench_list};
-use crate::harness::recordings::{field, message_field, status_field};
+use crate::harness::generate::recordings::{field, message_field, status_field};
 
 const GET_STATUS: [u8; 9] = [0, 0xC4, 3, 0, 2, 0, 0, 0, 1];
 
