@@ -16,6 +16,7 @@ use pomrozek_reference::harness::compare::program::{first_difference, keep, run}
 use pomrozek_reference::harness::coverage::Coverage;
 use pomrozek_reference::harness::edges::recordings::edge_recordings;
 use pomrozek_reference::harness::generate::recordings::recording;
+use pomrozek_reference::harness::situations::Run;
 
 const USAGE: &str = "usage: crosscheck --replay PROGRAM [--seed N] [--recordings N]";
 
@@ -85,9 +86,8 @@ fn check(options: &Options) -> Result<String, String> {
     let (recordings, replayed) = check_recordings(options)?;
     let called = check_library(options.seed)?;
     let gaps = [
-        named("recordings", replayed.gaps(false)),
-        named("recordings", replayed.ending_gaps()),
-        named("library calls", called.gaps(true)),
+        named("recordings", replayed.gaps(Run::Recordings)),
+        named("library calls", called.gaps(Run::Calls)),
     ];
     if !gaps.concat().is_empty() {
         return Err(format!("not reached, or not possible\n{}", gaps.concat().join("\n")));
@@ -136,8 +136,10 @@ fn check_recordings(options: &Options) -> Result<(u64, Coverage), String> {
             return Err(describe(options.seed, number as u64, &recording, difference));
         }
     }
-    println!("recordings: {count}; not asked/asked by outcome:\n{}", coverage.table(false));
-    println!("bad record {}, cut record {}", coverage.bad_records, coverage.cut_records);
+    println!(
+        "recordings: {count}; not asked/asked by outcome:\n{}",
+        coverage.table(Run::Recordings)
+    );
     Ok((count, coverage))
 }
 
@@ -163,6 +165,6 @@ fn check_library(seed: u64) -> Result<Coverage, String> {
     compare_lists(seed, LIBRARY_LISTS, &mut coverage)?;
     compare_blocks(seed, LIBRARY_BLOCKS, &mut coverage)?;
     compare_sessions(&StaticLibrary, seed, LIBRARY_SESSIONS, &mut coverage)?;
-    println!("library calls, not asked/asked by outcome:\n{}", coverage.table(true));
+    println!("library calls, not asked/asked by outcome:\n{}", coverage.table(Run::Calls));
     Ok(coverage)
 }

@@ -20,8 +20,8 @@ use crate::harness::generate::memories::{
 };
 use crate::harness::generate::random::Random;
 use crate::harness::situations::blocks::Offered;
-use crate::harness::situations::boards::{Listed, Met};
-use crate::harness::situations::seen::Watch;
+use crate::harness::situations::boards::Listed;
+use crate::harness::situations::seen::{Met, Watch};
 use crate::manager::{handle, Call, Setup};
 use crate::message::ANSWER_BYTES;
 use crate::outcome::{Outcome, Report};

@@ -261,6 +261,7 @@ mod tests {
     use crate::block::Abi;
     use crate::harness::compare::calls::Model;
     use crate::harness::compare::pair::{ROW_WORDS, TALLIES};
+    use crate::harness::situations::Run;
 
     /// The calls of the model, but for the records that a message leaves.
     struct Spoiled(fn(&Memory, &mut Memory));
@@ -301,7 +302,7 @@ mod tests {
     fn model_has_what_the_past_says() {
         let mut coverage = Coverage::default();
         assert_eq!(compare_sessions(&Model, 32, 100, &mut coverage), Ok(()));
-        let mut gaps = coverage.gaps(true);
+        let mut gaps = coverage.gaps(Run::Calls);
         gaps.retain(|gap| gap.starts_with("session"));
         assert_eq!(gaps, [""; 0]);
     }

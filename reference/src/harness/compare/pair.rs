@@ -10,8 +10,8 @@ use crate::harness::compare::calls::{line_of, message_line, same, Calls, Memory}
 use crate::harness::compare::ledger::{Account, Ledger, GRANTS, RELEASES};
 use crate::harness::coverage::Coverage;
 use crate::harness::situations::blocks::Offered;
-use crate::harness::situations::boards::{Listed, Met};
-use crate::harness::situations::seen::Watch;
+use crate::harness::situations::boards::Listed;
+use crate::harness::situations::seen::{Met, Watch};
 use crate::harness::situations::sessions::LongSession;
 use crate::manager::{handle, Call, Setup};
 use crate::session::Event;

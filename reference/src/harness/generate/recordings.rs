@@ -377,6 +377,7 @@ mod tests {
     use crate::block::{BLOCK_BYTES, HIERARCHY_AT, LIST_AT};
     use crate::harness::coverage::Coverage;
     use crate::harness::edges::recordings::edge_recordings;
+    use crate::harness::situations::Run;
     use crate::session::replay;
 
     #[test]
@@ -386,7 +387,7 @@ mod tests {
         for recording in edge_recordings().into_iter().chain(random) {
             coverage.count_recording(&recording);
         }
-        assert_eq!([coverage.gaps(false), coverage.ending_gaps()].concat(), [""; 0]);
+        assert_eq!(coverage.gaps(Run::Recordings), [""; 0]);
     }
 
     /// The recording with the list alone in place of each whole block.

@@ -8,7 +8,7 @@ use crate::block::{
 };
 use crate::board::{Board, ROWS};
 use crate::bytes::u16_at;
-use crate::harness::situations::counted::Counted;
+use crate::harness::situations::Named;
 use crate::session::{LONGEST_BLOCK, RECORDED_ABI};
 use BlockFault::{B1, B10, B2, B3, B4, B9};
 
@@ -70,12 +70,11 @@ impl Offered<'_> {
     }
 }
 
-type Test = fn(&Offered) -> bool;
-
 const HIERARCHY_SIZE: u16 = HIERARCHY_BYTES as u16;
 const OTP_SIZE: u16 = OTP_BYTES as u16;
 
-const PARTS: [(&str, Test); 20] = [
+/// A block's parts.
+pub const PARTS: Named<fn(&Offered) -> bool> = &[
     ("block of an empty list and nothing else", |o| {
         o.ok() && o.list_entries().is_empty() && o.links().is_empty()
     }),
@@ -108,17 +107,8 @@ const PARTS: [(&str, Test); 20] = [
     }),
 ];
 
-/// A block's parts, none met yet.
-pub fn parts() -> Counted {
-    Counted::new(PARTS.map(|(name, _)| name))
-}
-
-/// Counts all that holds of one block.
-pub fn count_parts(counted: &mut Counted, offered: &Offered) {
-    counted.count(PARTS.map(|(_, test)| test(offered)));
-}
-
-const CALLED: [(&str, Test); 6] = [
+/// What only calls to the static library can have.
+pub const CALLED: Named<fn(&Offered) -> bool> = &[
     ("block with other ABI bytes than a recording's", |o| o.ok() && o.abi != RECORDED_ABI),
     ("block with two ABI bytes alike", |o| o.ok() && o.abi[0] == o.abi[1]),
     ("block with a recording's ABI bytes, others named", |o| {
@@ -132,13 +122,3 @@ const CALLED: [(&str, Test); 6] = [
         o.has_link(|link, _, _| o.board.0[usize::from(link.host)] > 2)
     }),
 ];
-
-/// What only calls to the static library can have, none met yet.
-pub fn called() -> Counted {
-    Counted::new(CALLED.map(|(name, _)| name))
-}
-
-/// Counts all that holds of one call.
-pub fn count_called(counted: &mut Counted, offered: &Offered) {
-    counted.count(CALLED.map(|(_, test)| test(offered)));
-}

@@ -4,11 +4,10 @@
 use crate::access::{ListFault, ENTRY_BYTES, LIST_HEADER_BYTES};
 use crate::board::{Board, Class, FIRST_HOSTS, FIRST_PROCESSORS, MOST_HOSTS, ROWS};
 use crate::description::{BoardFault, Description, Item, TAG_HOST, TAG_PROCESSOR};
-use crate::harness::situations::counted::Counted;
-use crate::harness::situations::seen::Seen;
-use crate::manager::{Call, Setup};
+use crate::harness::situations::seen::{Met, Seen};
+use crate::harness::situations::Named;
 use crate::message::HEADER_BYTES;
-use crate::outcome::{Outcome, Report};
+use crate::outcome::Outcome;
 
 /// A description that was offered and what it came to.
 pub struct Offer<'a> {
@@ -78,9 +77,8 @@ impl Offer<'_> {
     }
 }
 
-type OfferTest = fn(&Offer) -> bool;
-
-const OFFERS: [(&str, OfferTest); 28] = [
+/// How descriptions come out.
+pub const OFFERS: Named<fn(&Offer) -> bool> = &[
     ("board of nothing", |o| o.sizes() == Some((0, 0))),
     ("board of 64 hosts and 32 processors", |o| o.sizes() == Some((MOST_HOSTS, ROWS))),
     ("board of no processor", |o| o.sizes().is_some_and(|(hosts, rows)| hosts > 0 && rows == 0)),
@@ -116,16 +114,6 @@ const OFFERS: [(&str, OfferTest); 28] = [
     ("board refused for a 33rd processor", |o| o.refused(BoardFault::D6, TAG_PROCESSOR)),
 ];
 
-/// How descriptions come out, none met yet.
-pub fn offers() -> Counted {
-    Counted::new(OFFERS.map(|(name, _)| name))
-}
-
-/// Counts all that holds of one description.
-pub fn count_offer(counted: &mut Counted, offer: &Offer) {
-    counted.count(OFFERS.map(|(_, test)| test(offer)));
-}
-
 /// A list that was offered, under which board and what it came to.
 pub struct Listed<'a> {
     pub board: &'a Board,
@@ -148,9 +136,8 @@ impl Listed<'_> {
     }
 }
 
-type ListTest = fn(&Listed) -> bool;
-
-const LISTS: [(&str, ListTest); 3] = [
+/// Lists under boards.
+pub const LISTS: Named<fn(&Listed) -> bool> = &[
     ("list with an entry for each of 32 processors", |l| {
         l.verdict.is_ok() && l.processors().len() == ROWS
     }),
@@ -162,29 +149,7 @@ const LISTS: [(&str, ListTest); 3] = [
     }),
 ];
 
-/// Lists under boards, none met yet.
-pub fn lists() -> Counted {
-    Counted::new(LISTS.map(|(name, _)| name))
-}
-
-/// Counts all that holds of one list.
-pub fn count_list(counted: &mut Counted, listed: &Listed) {
-    counted.count(LISTS.map(|(_, test)| test(listed)));
-}
-
-/// A message with its report, under which board and list.
-pub struct Met<'a> {
-    pub setup: Setup<'a>,
-    pub call: Call<'a>,
-    pub report: Report,
-}
-
 impl Met<'_> {
-    /// Its outcome.
-    pub fn outcome(&self) -> Outcome {
-        self.report.outcome
-    }
-
     /// Whether the sender is refused, though header and channel have the same host other than 0.
     fn unknown_sender(&self) -> bool {
         let same = self.call.message.get(2) == Some(&self.call.channel);
@@ -204,9 +169,8 @@ fn in_first(number: u8) -> bool {
     FIRST_PROCESSORS.iter().any(|processor| processor.number == number)
 }
 
-type MetTest = fn(&Met) -> bool;
-
-const REFUSALS: [(&str, MetTest); 4] = [
+/// Messages refused by the board.
+pub const REFUSALS: Named<fn(&Met) -> bool> = &[
     ("host of the board before", |m| m.unknown_sender() && m.sender_of_first()),
     ("processor of the board before", |m| m.outcome() == Outcome::N6 && m.processor_of_first()),
     ("sender on a board without hosts", |m| {
@@ -216,16 +180,6 @@ const REFUSALS: [(&str, MetTest); 4] = [
         m.outcome() == Outcome::N6 && m.setup.board.processors().is_empty()
     }),
 ];
-
-/// Messages refused by the board, none met yet.
-pub fn refusals() -> Counted {
-    Counted::new(REFUSALS.map(|(name, _)| name))
-}
-
-/// Counts all that holds of one message.
-pub fn count_refusal(counted: &mut Counted, met: &Met) {
-    counted.count(REFUSALS.map(|(_, test)| test(met)));
-}
 
 impl Seen<'_> {
     /// The bytes of the sender, of the row's class and of its home.
@@ -252,9 +206,8 @@ impl Seen<'_> {
     }
 }
 
-type OddTest = fn(&Seen) -> bool;
-
-const ODDITIES: [(&str, OddTest); 7] = [
+/// What no description leaves.
+pub const ODDITIES: Named<fn(&Seen) -> bool> = &[
     ("two processors on one row", |s| s.ok() && s.row_shared()),
     ("processor 0 on the board", |s| s.ok() && s.processor == 0),
     ("host byte above 2", |s| s.ok() && s.host_byte() > 2),
@@ -265,13 +218,3 @@ const ODDITIES: [(&str, OddTest); 7] = [
     }),
     ("home with another home", |s| s.changed_control() && s.board.home_at(s.home()) != s.home()),
 ];
-
-/// What no description leaves, none met yet.
-pub fn oddities() -> Counted {
-    Counted::new(ODDITIES.map(|(name, _)| name))
-}
-
-/// Counts all that holds of one message.
-pub fn count_oddity(counted: &mut Counted, seen: &Seen) {
-    counted.count(ODDITIES.map(|(_, test)| test(seen)));
-}

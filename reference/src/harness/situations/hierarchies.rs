@@ -6,7 +6,7 @@ use crate::block::{
 };
 use crate::board::Board;
 use crate::harness::situations::blocks::Offered;
-use crate::harness::situations::counted::Counted;
+use crate::harness::situations::Named;
 use BlockFault::{B5, B6, B7, B8};
 
 /// Where following supervisors leads.
@@ -154,11 +154,10 @@ impl Offered<'_> {
     }
 }
 
-type Test = fn(&Offered) -> bool;
-
 const ALL: usize = HIERARCHY_ENTRIES;
 
-const HIERARCHIES: [(&str, Test); 30] = [
+/// Hierarchies that are taken and that are refused.
+pub const HIERARCHIES: Named<fn(&Offered) -> bool> = &[
     ("hierarchy without a used entry", |o| o.ok() && o.links().is_empty()),
     ("hierarchy of 32 used entries", |o| o.ok() && o.links().len() == ALL),
     ("hierarchy on the first board", |o| {
@@ -219,16 +218,6 @@ const HIERARCHIES: [(&str, Test); 30] = [
     }),
 ];
 
-/// Hierarchies, none met yet.
-pub fn hierarchies() -> Counted {
-    Counted::new(HIERARCHIES.map(|(name, _)| name))
-}
-
-/// Counts all that holds of one hierarchy.
-pub fn count_hierarchy(counted: &mut Counted, offered: &Offered) {
-    counted.count(HIERARCHIES.map(|(_, test)| test(offered)));
-}
-
 #[cfg(test)]
 mod tests {
     use super::*;
@@ -236,6 +225,7 @@ mod tests {
     use crate::block::accept_block;
     use crate::harness::generate::blocks::BlockDraft;
     use crate::harness::generate::lists::list_of;
+    use crate::harness::situations::holding;
     use crate::session::RECORDED_ABI;
 
     /// What holds of a block with these entries, on document 01's board.
@@ -245,8 +235,7 @@ mod tests {
         let (board, abi, block) = (&Board::first(), RECORDED_ABI, &draft.to_bytes());
         let verdict = accept_block(board, &mut [0; ACCESS_WORDS], abi, block);
         let offered = Offered { board, abi, block, verdict };
-        let held = HIERARCHIES.iter().filter(|(_, test)| test(&offered));
-        held.map(|(name, _)| *name).collect()
+        holding(HIERARCHIES, &offered)
     }
 
     #[test]

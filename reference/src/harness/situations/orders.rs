@@ -2,8 +2,8 @@
 //! cores share or not, and boards at their limits.
 
 use crate::board::{Board, MOST_HOSTS, ROWS};
-use crate::harness::situations::counted::Counted;
 use crate::harness::situations::seen::Seen;
+use crate::harness::situations::Named;
 use crate::manager::GEN_IGN_BOOTVECTOR;
 use crate::message::{Order, ANSWER_BYTES};
 use crate::outcome::Outcome;
@@ -67,9 +67,8 @@ impl Seen<'_> {
     }
 }
 
-type Test = fn(&Seen) -> bool;
-
-const SITUATIONS: [(&str, Test); 34] = [
+/// Orders of every type.
+pub const ORDERS: Named<fn(&Seen) -> bool> = &[
     ("gained while free", |s| s.requested() && s.was_free()),
     ("gained without an entry", |s| s.requested() && !s.has_entry()),
     ("kept by the recovery master", |s| s.kept()),
@@ -123,13 +122,3 @@ const SITUATIONS: [(&str, Test); 34] = [
     ("host 1", |s| s.ok() && s.sender == 1),
     ("host 255", |s| s.ok() && s.sender == 255),
 ];
-
-/// These situations, none met yet.
-pub fn situations() -> Counted {
-    Counted::new(SITUATIONS.map(|(name, _)| name))
-}
-
-/// Counts all that holds of one message.
-pub fn count_situations(counted: &mut Counted, seen: &Seen) {
-    counted.count(SITUATIONS.map(|(_, test)| test(seen)));
-}

@@ -3,8 +3,10 @@
 
 use crate::access::Role;
 use crate::board::NO_HOST;
-use crate::harness::situations::counted::Counted;
-use crate::harness::situations::seen::Seen;
+use crate::harness::generate::goals::Subject;
+use crate::harness::situations::seen::{Met, Seen};
+use crate::harness::situations::Named;
+use crate::message::Kind;
 use crate::outcome::Outcome;
 
 /// Where an entry has its master and its secondaries.
@@ -73,12 +75,23 @@ impl Seen<'_> {
     }
 }
 
-type Test = fn(&Seen) -> bool;
+impl Met<'_> {
+    /// Whether this is a request of a channel without a role, where the host in the header has one.
+    fn role_of_header_alone(&self) -> bool {
+        let (Subject::Type(Kind::Request), _) = Subject::of(self.call.message) else {
+            return false;
+        };
+        let [by_channel, by_header] =
+            [self.call.channel, self.call.message[2]].map(|h| self.role(h));
+        self.outcome() == Outcome::N2 && by_channel == Role::None && by_header != Role::None
+    }
+}
 
 const OK: Outcome = Outcome::OK;
 const N7: Outcome = Outcome::N7;
 
-const PLACES: [(&str, Test); 20] = [
+/// Requests by the places that name their sender.
+pub const PLACES: Named<fn(&Seen) -> bool> = &[
     ("request by master and secondary 0", |s| s.named_at(OK, &[MASTER, SECONDARY_0])),
     ("request by master and secondary 1", |s| s.named_at(OK, &[MASTER, SECONDARY_1])),
     ("request by master and secondary 2", |s| s.named_at(OK, &[MASTER, SECONDARY_2])),
@@ -112,18 +125,12 @@ const PLACES: [(&str, Test); 20] = [
     }),
 ];
 
-/// These situations, none met yet.
-pub fn places() -> Counted {
-    Counted::new(PLACES.map(|(name, _)| name))
-}
-
-/// Counts all that holds of one message.
-pub fn count_places(counted: &mut Counted, seen: &Seen) {
-    counted.count(PLACES.map(|(_, test)| test(seen)));
-}
+/// Requests by the hosts of channel and header.
+pub const HEADERS: Named<fn(&Met) -> bool> =
+    &[("Request N2, role of the host in the header alone", |m| m.role_of_header_alone())];
 
 /// What no list leaves.
-const ODD_WORDS: [(&str, Test); 10] = [
+pub const ODD_WORDS: Named<fn(&Seen) -> bool> = &[
     ("master's word alike in the low byte", |s| s.alike_in_low_byte(MASTER)),
     ("secondary 0 alike in the low byte", |s| s.alike_in_low_byte(SECONDARY_0)),
     ("secondary 1 alike in the low byte", |s| s.alike_in_low_byte(SECONDARY_1)),
@@ -136,12 +143,28 @@ const ODD_WORDS: [(&str, Test); 10] = [
     ("open processor with secondaries", |s| s.named_without_master()),
 ];
 
-/// Words that no list leaves, none met yet.
-pub fn odd_words() -> Counted {
-    Counted::new(ODD_WORDS.map(|(name, _)| name))
-}
+#[cfg(test)]
+mod tests {
+    use super::*;
+    use crate::access::ACCESS_WORDS;
+    use crate::board::Board;
+    use crate::harness::situations::holding;
+    use crate::manager::{handle, Call, Setup};
+    use crate::record::RECORD_WORDS;
 
-/// Counts all that holds of one message.
-pub fn count_odd_words(counted: &mut Counted, seen: &Seen) {
-    counted.count(ODD_WORDS.map(|(_, test)| test(seen)));
+    /// Host 5 is a secondary of processor 1.
+    #[test]
+    fn role_of_the_header_alone_is_told() {
+        let (board, mut access) = (Board::first(), [0; ACCESS_WORDS]);
+        access[..3].copy_from_slice(&[1, 3, 5]);
+        let setup = Setup { board: &board, access: &access };
+        let met = |channel: u8, message: &[u8]| {
+            let call = Call { channel, message, status: &[] };
+            let report = handle(setup, &mut [0; RECORD_WORDS], &call, &mut [0; 29]);
+            holding(HEADERS, &Met { setup, call, report }).len()
+        };
+        let request = [0, 0xC0, 5, 0, 2, 0, 0, 0, 1];
+        assert_eq!([met(7, &request), met(3, &request), met(5, &request)], [1, 0, 0]);
+        assert_eq!([met(7, &request[..7]), met(7, &[1, 0xC0, 5, 0, 2, 0, 0, 0, 1])], [0, 0]);
+    }
 }

@@ -1,13 +1,35 @@
-//! What is seen of a message with a whole order: what it met, what it came to, and what was done
-//! before it.
+//! What is seen of a message: what it met, what it came to and, if it has a whole order, what was
+//! done before it.
 
-use crate::access::{row_words, Role};
+use crate::access::{role_of, row_words, Role};
 use crate::board::{Board, Class, ALONE, NO_HOST, ROWS};
 use crate::harness::clusters::Clusters;
 use crate::manager::{Call, Setup};
-use crate::message::{read_order, Order};
+use crate::message::{read_order, Header, Kind, Order, HEADER_BYTES};
 use crate::outcome::{Outcome, Report};
 use crate::record::{Record, RecordMemory};
+
+/// A message with its report, under which board and list.
+pub struct Met<'a> {
+    pub setup: Setup<'a>,
+    pub call: Call<'a>,
+    pub report: Report,
+}
+
+impl Met<'_> {
+    /// Its outcome.
+    pub fn outcome(&self) -> Outcome {
+        self.report.outcome
+    }
+
+    /// The role of a host for the processor that the message names. Where it names none of the
+    /// board, the role for the first row.
+    pub fn role(&self, host: u8) -> Role {
+        let Setup { board, access } = self.setup;
+        let named = self.call.message.get(HEADER_BYTES).and_then(|&number| board.row_of(number));
+        role_of(board, access, named.unwrap_or(0), u16::from(host))
+    }
+}
 
 /// Follows the messages that meet the same memories one after the other.
 #[derive(Default)]
@@ -38,6 +60,7 @@ impl Watch {
             return None;
         }
         let (processor, order) = read_order(call.message).ok()?;
+        let kind = Kind::of(Header::read(call.message)?.number)?;
         let board = setup.board;
         let row = board.row_of(processor)?;
         let load = |other: u8| board.row_of(other).map(|row| Record::load(board, before, row));
@@ -46,6 +69,7 @@ impl Watch {
             sender: call.channel,
             processor,
             row,
+            kind,
             order,
             places: row_words(setup.access, row),
             before: Record::load(board, before, row),
@@ -84,6 +108,7 @@ pub struct Seen<'a> {
     pub(super) sender: u8,
     pub processor: u8,
     pub row: usize,
+    pub(super) kind: Kind,
     pub(super) order: Order,
     /// the master and the secondaries of the row
     pub(super) places: &'a [u16],

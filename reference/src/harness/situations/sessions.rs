@@ -1,7 +1,7 @@
 //! Situations of long sessions: what they start from, and how far they take the tallies.
 
 use crate::harness::compare::ledger::{GRANTS, HANDOVERS, OVERRIDES, RELEASES};
-use crate::harness::situations::counted::Counted;
+use crate::harness::situations::Named;
 
 /// The largest number, at which a tally stays.
 const MOST: u32 = u32::MAX;
@@ -38,9 +38,8 @@ impl LongSession {
     }
 }
 
-type Test = fn(&LongSession) -> bool;
-
-const SESSIONS: [(&str, Test); 17] = [
+/// Whole sessions.
+pub const SESSIONS: Named<fn(&LongSession) -> bool> = &[
     ("session from zeros", |s| s.starts_from_zeros()),
     ("session from tallies that are there", |s| !s.starts_from_zeros()),
     ("session on the first board", |s| !s.described),
@@ -62,26 +61,18 @@ const SESSIONS: [(&str, Test); 17] = [
     }),
 ];
 
-/// Long sessions, none met yet.
-pub fn sessions() -> Counted {
-    Counted::new(SESSIONS.map(|(name, _)| name))
-}
-
-/// Counts all that holds of one session.
-pub fn count_session(counted: &mut Counted, session: &LongSession) {
-    counted.count(SESSIONS.map(|(_, test)| test(session)));
-}
-
 #[cfg(test)]
 mod tests {
     use super::*;
+    use crate::harness::situations::holding;
 
     /// What holds of a session with one row that starts so and counts so much.
     fn met(start: [u32; 4], counts: [u64; 4]) -> Vec<&'static str> {
         let session = LongSession { rows: vec![(start, counts)], ..LongSession::default() };
         let always = ["session on the first board", "session under a list"];
-        let holding = SESSIONS.iter().filter(|(_, test)| test(&session)).map(|(name, _)| *name);
-        holding.filter(|name| !always.contains(name)).collect()
+        let mut held = holding(SESSIONS, &session);
+        held.retain(|name| !always.contains(name));
+        held
     }
 
     #[test]

@@ -1,11 +1,12 @@
 //! Situations of tallies: what counts and what does not, and from which numbers.
 
-use crate::harness::situations::counted::Counted;
 use crate::harness::situations::seen::Seen;
-use crate::message::Order;
+use crate::harness::situations::Named;
+use crate::message::Kind;
 use crate::outcome::Outcome;
 use crate::record::Tallies;
-use Outcome::{N7, N8};
+use Kind::{GetStatus, Handover, Release, Request, SetConfig, SetControl, WaitStatus};
+use Outcome::{N7, N8, OK};
 
 /// The largest number, at which a tally stays.
 const MOST: u32 = u32::MAX;
@@ -49,9 +50,9 @@ impl Seen<'_> {
         self.handed(true) && self.has_tallies()
     }
 
-    /// Whether this is an order with this outcome in a record with tallies.
-    fn came_to(&self, outcome: Outcome, is_order: fn(&Order) -> bool) -> bool {
-        is_order(&self.order) && self.report.outcome == outcome && self.has_tallies()
+    /// Whether this is an order of this type and outcome in a record with tallies.
+    fn came_to(&self, outcome: Outcome, kind: Kind) -> bool {
+        self.kind == kind && self.report.outcome == outcome && self.has_tallies()
     }
 
     /// Whether another processor with the same control word has tallies, and other ones.
@@ -67,39 +68,8 @@ impl Seen<'_> {
     }
 }
 
-fn is_request(order: &Order) -> bool {
-    *order == Order::Request
-}
-
-fn is_release(order: &Order) -> bool {
-    *order == Order::Release
-}
-
-fn is_handover(order: &Order) -> bool {
-    matches!(order, Order::Handover { .. })
-}
-
-fn is_set_config(order: &Order) -> bool {
-    matches!(order, Order::SetConfig(_))
-}
-
-fn is_set_control(order: &Order) -> bool {
-    matches!(order, Order::SetControl(_))
-}
-
-fn is_get_status(order: &Order) -> bool {
-    *order == Order::GetStatus
-}
-
-fn is_wait(order: &Order) -> bool {
-    matches!(order, Order::WaitStatus(_))
-}
-
-type Test = fn(&Seen) -> bool;
-
-const OK: Outcome = Outcome::OK;
-
-const TALLIES: [(&str, Test); 28] = [
+/// What counts and what does not.
+pub const TALLIES: Named<fn(&Seen) -> bool> = &[
     ("grant counted, answer asked for", |s| s.granted() && s.answered()),
     ("grant counted, no answer asked for", |s| s.granted() && !s.answered()),
     ("override counted, answer asked for", |s| s.taken() && s.answered()),
@@ -118,32 +88,22 @@ const TALLIES: [(&str, Test); 28] = [
         s.handed_to_oneself() && s.has_entry() && !s.by_master()
     }),
     ("handed to oneself, no entry, tallies kept", |s| s.handed_to_oneself() && !s.has_entry()),
-    ("request refused with N7, tallies kept", |s| s.came_to(N7, is_request)),
-    ("release refused with N7, tallies kept", |s| s.came_to(N7, is_release)),
-    ("handover refused with N7, tallies kept", |s| s.came_to(N7, is_handover)),
-    ("handover refused with N8, tallies kept", |s| s.came_to(N8, is_handover)),
-    ("set config, tallies kept", |s| s.came_to(OK, is_set_config)),
-    ("set control, tallies kept", |s| s.came_to(OK, is_set_control)),
-    ("get status, tallies kept", |s| s.came_to(OK, is_get_status)),
-    ("wait over, tallies kept", |s| s.came_to(OK, is_wait)),
+    ("request refused with N7, tallies kept", |s| s.came_to(N7, Request)),
+    ("release refused with N7, tallies kept", |s| s.came_to(N7, Release)),
+    ("handover refused with N7, tallies kept", |s| s.came_to(N7, Handover)),
+    ("handover refused with N8, tallies kept", |s| s.came_to(N8, Handover)),
+    ("set config, tallies kept", |s| s.came_to(OK, SetConfig)),
+    ("set control, tallies kept", |s| s.came_to(OK, SetControl)),
+    ("get status, tallies kept", |s| s.came_to(OK, GetStatus)),
+    ("wait over, tallies kept", |s| s.came_to(OK, WaitStatus)),
     ("grant beside a core with other tallies", |s| s.granted() && s.beside_others()),
     ("override beside a core with other tallies", |s| s.taken() && s.beside_others()),
     ("handover beside a core with other tallies", |s| s.handed_on() && s.beside_others()),
     ("release beside a core with other tallies", |s| s.released() && s.beside_others()),
 ];
 
-/// These situations, none met yet.
-pub fn tallies() -> Counted {
-    Counted::new(TALLIES.map(|(name, _)| name))
-}
-
-/// Counts all that holds of one message.
-pub fn count_tallies(counted: &mut Counted, seen: &Seen) {
-    counted.count(TALLIES.map(|(_, test)| test(seen)));
-}
-
 /// What no recording is long enough for, and controllers that no message leaves.
-const LIMITS: [(&str, Test); 17] = [
+pub const LIMITS: Named<fn(&Seen) -> bool> = &[
     ("grants from 4294967294", |s| s.granted() && s.before.tallies.grants == MOST - 1),
     ("grants stay at 4294967295", |s| s.granted() && s.before.tallies.grants == MOST),
     ("overrides from 4294967294", |s| s.taken() && s.before.tallies.overrides == MOST - 1),
@@ -162,22 +122,12 @@ const LIMITS: [(&str, Test); 17] = [
     ("override of a controller alike in the low byte", |s| s.taken() && s.odd_controller(true)),
     ("override of another controller that is no byte", |s| s.taken() && s.odd_controller(false)),
     ("release refused, controller alike in the low byte", |s| {
-        s.came_to(N7, is_release) && s.odd_controller(true)
+        s.came_to(N7, Release) && s.odd_controller(true)
     }),
     ("handover refused, controller alike in the low byte", |s| {
-        s.came_to(N7, is_handover) && s.odd_controller(true)
+        s.came_to(N7, Handover) && s.odd_controller(true)
     }),
 ];
-
-/// Limits of tallies and odd controllers, none met yet.
-pub fn limits() -> Counted {
-    Counted::new(LIMITS.map(|(name, _)| name))
-}
-
-/// Counts all that holds of one message.
-pub fn count_limits(counted: &mut Counted, seen: &Seen) {
-    counted.count(LIMITS.map(|(_, test)| test(seen)));
-}
 
 #[cfg(test)]
 mod tests {
@@ -185,6 +135,7 @@ mod tests {
     use crate::access::ACCESS_WORDS;
     use crate::bench::bytes_of;
     use crate::board::Board;
+    use crate::harness::situations::holding;
     use crate::harness::situations::seen::Watch;
     use crate::manager::{handle, Call, Setup};
     use crate::message::ANSWER_BYTES;
@@ -206,8 +157,7 @@ mod tests {
         let call = Call { channel: message[2], message: &message, status: &[1] };
         let report = handle(setup, &mut records, &call, &mut [0; ANSWER_BYTES]);
         let seen = Watch::default().see(setup, &before, &call, report).unwrap();
-        let holding = TALLIES.iter().chain(&LIMITS).filter(|(_, test)| test(&seen));
-        holding.map(|(name, _)| *name).collect()
+        [holding(TALLIES, &seen), holding(LIMITS, &seen)].concat()
     }
 
     const REQUEST_BY_3: &str = "00 C0 03 00 02 00 00 00 01";

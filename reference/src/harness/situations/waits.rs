@@ -1,8 +1,8 @@
 //! Situations of waits: where a run ends or breaks, how many words are lent, and matches that are
 //! equal to the waits or above them.
 
-use crate::harness::situations::counted::Counted;
 use crate::harness::situations::seen::Seen;
+use crate::harness::situations::Named;
 use crate::message::{Order, HEADER_BYTES};
 use crate::outcome::Outcome;
 use crate::wait::Wait;
@@ -74,9 +74,8 @@ impl Seen<'_> {
     }
 }
 
-type Test = fn(&Seen) -> bool;
-
-const WAITS: [(&str, Test); 28] = [
+/// Waits of all outcomes.
+pub const WAITS: Named<fn(&Seen) -> bool> = &[
     ("wait over at the first check", |s| s.waited(OK, |_| s.report.checks == 1)),
     ("wait over at the last check", |s| {
         s.waited(OK, |wait| wait.waits > 1 && s.report.checks == u32::from(wait.waits))
@@ -132,21 +131,12 @@ const WAITS: [(&str, Test); 28] = [
     ("matches above waits, sender without the right", |s| s.above(N7, |_| true)),
 ];
 
-/// These situations, none met yet.
-pub fn waits() -> Counted {
-    Counted::new(WAITS.map(|(name, _)| name))
-}
-
-/// Counts all that holds of one message.
-pub fn count_waits(counted: &mut Counted, seen: &Seen) {
-    counted.count(WAITS.map(|(_, test)| test(seen)));
-}
-
 #[cfg(test)]
 mod tests {
     use super::*;
     use crate::access::ACCESS_WORDS;
     use crate::board::Board;
+    use crate::harness::situations::holding;
     use crate::harness::situations::seen::Watch;
     use crate::manager::{handle, Call, Setup};
     use crate::message::ANSWER_BYTES;
@@ -169,7 +159,7 @@ mod tests {
         let mut records = [0; RECORD_WORDS];
         let report = handle(setup, &mut records, &call, &mut [0; ANSWER_BYTES]);
         let seen = Watch::default().see(setup, &records, &call, report).unwrap();
-        WAITS.iter().filter(|(_, test)| test(&seen)).map(|(name, _)| *name).collect()
+        holding(WAITS, &seen)
     }
 
     #[test]
