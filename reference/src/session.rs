@@ -39,7 +39,9 @@ pub const LONGEST_BOARD: usize = 512;
 /// The longest block that a recording can hold.
 pub const LONGEST_BLOCK: usize = 512;
 
-const LONGEST_LIST: usize = 512;
+/// The longest list that a recording can hold.
+pub const LONGEST_LIST: usize = 512;
+
 const LONGEST_STATUS: usize = 1020;
 const LONGEST_MESSAGE_FIELD: usize = 512;
 
@@ -226,6 +228,14 @@ pub fn replay(input: impl Read, mut out: impl Write) -> io::Result<()> {
         write_line(&mut out, &event)?;
     }
     out.flush()
+}
+
+/// The lines of a whole recording, for tests.
+#[cfg(test)]
+pub fn lines_of(recording: &[u8]) -> String {
+    let mut lines = Vec::new();
+    replay(recording, &mut lines).expect("a vector takes all bytes");
+    String::from_utf8(lines).expect("lines are text")
 }
 
 #[cfg(test)]

@@ -11,3 +11,12 @@ pub mod coverage;
 pub mod edges;
 pub mod generate;
 pub mod situations;
+
+/// What a run has the other implementation do.
+#[derive(Clone, Copy, Debug, PartialEq, Eq)]
+pub enum Run {
+    /// replay recordings
+    Recordings,
+    /// take calls to its static library
+    Calls,
+}

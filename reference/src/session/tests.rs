@@ -6,12 +6,6 @@ use crate::harness::generate::recordings::{field, message_field, status_field};
 
 const GET_STATUS: [u8; 9] = [0, 0xC4, 3, 0, 2, 0, 0, 0, 1];
 
-fn lines(recording: &[u8]) -> String {
-    let mut out = Vec::new();
-    replay(recording, &mut out).unwrap();
-    String::from_utf8(out).unwrap()
-}
-
 /// Gives one byte at a time, as a slow pipe may.
 struct Drip<'a>(&'a [u8]);
 
@@ -24,7 +18,7 @@ impl Read for Drip<'_> {
 
 #[test]
 fn empty_recording_prints_nothing() {
-    assert_eq!(lines(&[]), "");
+    assert_eq!(lines_of(&[]), "");
 }
 
 #[test]
@@ -42,7 +36,7 @@ fn status_words_stand_until_the_next_ones() {
     let answer = "OK 0 0 00c40300020000000100000000000000000000000000000000\
         01020304\n";
     let expected = ["list OK\n", "R3 0 0 -\n", answer, answer, "R3 0 0 -\n"].concat();
-    assert_eq!(lines(&fields.concat()), expected);
+    assert_eq!(lines_of(&fields.concat()), expected);
     let mut out = Vec::new();
     replay(Drip(&fields.concat()), &mut out).unwrap();
     assert_eq!(out, expected.as_bytes());
@@ -51,31 +45,31 @@ fn status_words_stand_until_the_next_ones() {
 #[test]
 fn verdicts_are_printed_by_number() {
     let fields = [field(TAG_LIST, &[]), field(TAG_LIST, &bench_list()), field(TAG_LIST, &[])];
-    assert_eq!(lines(&fields.concat()), "list A2\nlist OK\nlist A1\n");
+    assert_eq!(lines_of(&fields.concat()), "list A2\nlist OK\nlist A1\n");
 }
 
 #[test]
 fn bad_tags_are_judged_alone() {
     for tag in [0, 5, 7, 131, 132, 134, 255] {
-        assert_eq!(lines(&[tag]), "bad record\n");
-        assert_eq!(lines(&[&[tag], &field(TAG_LIST, &[])[..]].concat()), "bad record\n");
+        assert_eq!(lines_of(&[tag]), "bad record\n");
+        assert_eq!(lines_of(&[&[tag], &field(TAG_LIST, &[])[..]].concat()), "bad record\n");
     }
 }
 
 #[test]
 fn cut_fields() {
-    assert_eq!(lines(&[3]), "cut record\n");
-    assert_eq!(lines(&[3, 0]), "cut record\n");
-    assert_eq!(lines(&[3, 2, 0, 3]), "cut record\n");
-    assert_eq!(lines(&[3, 1, 0]), "cut record\n");
-    assert_eq!(lines(&[2, 4, 0, 1, 2, 3]), "cut record\n");
+    assert_eq!(lines_of(&[3]), "cut record\n");
+    assert_eq!(lines_of(&[3, 0]), "cut record\n");
+    assert_eq!(lines_of(&[3, 2, 0, 3]), "cut record\n");
+    assert_eq!(lines_of(&[3, 1, 0]), "cut record\n");
+    assert_eq!(lines_of(&[2, 4, 0, 1, 2, 3]), "cut record\n");
 }
 
 #[test]
 fn bad_lengths_are_judged_before_the_body() {
     let judged = |tag, length: u16| {
         let low_high = length.to_le_bytes();
-        lines(&[tag, low_high[0], low_high[1]])
+        lines_of(&[tag, low_high[0], low_high[1]])
     };
     let bad = [
         (1, 513),
@@ -111,17 +105,17 @@ fn blocks_are_printed_by_number_and_loop_host() {
     let blocks = [Vec::new(), swapped, master_266, looped, otp_size, bench_block(), bench_block()];
     let fields = blocks.map(|block| field(TAG_BLOCK, &block)).concat();
     let expected = "block B1\nblock B2\nblock A7\nblock B8 13\nblock B10\nblock OK\nblock A1\n";
-    assert_eq!(lines(&fields), expected);
+    assert_eq!(lines_of(&fields), expected);
     let behind = [field(TAG_LIST, &bench_list()), field(TAG_BOARD, &[])].concat();
     let expected = format!("{expected}list A1\nboard A1\n");
-    assert_eq!(lines(&[fields, behind].concat()), expected);
+    assert_eq!(lines_of(&[fields, behind].concat()), expected);
 }
 
 #[test]
 fn message_may_be_empty_or_long() {
-    assert_eq!(lines(&message_field(3, &[])), "R2 0 0 -\n");
-    assert_eq!(lines(&message_field(3, &[0; 511])), "R2 0 0 -\n");
-    assert_eq!(lines(&message_field(3, &GET_STATUS)), "N1 0 0 00c4030000000000\n");
+    assert_eq!(lines_of(&message_field(3, &[])), "R2 0 0 -\n");
+    assert_eq!(lines_of(&message_field(3, &[0; 511])), "R2 0 0 -\n");
+    assert_eq!(lines_of(&message_field(3, &GET_STATUS)), "N1 0 0 00c4030000000000\n");
 }
 
 #[test]
@@ -137,5 +131,5 @@ fn boards_are_printed_by_number() {
         field(TAG_LIST, &bench_list()[..291]),
     ];
     let expected = "board OK\nboard D1\nboard D3\nboard OK\nlist A5\nboard OK\nlist A2\n";
-    assert_eq!(lines(&fields.concat()), expected);
+    assert_eq!(lines_of(&fields.concat()), expected);
 }

@@ -106,7 +106,7 @@ mod tests {
     use super::*;
     use crate::bench::cases;
     use crate::harness::compare::calls::Model;
-    use crate::session::replay;
+    use crate::session::lines_of;
 
     #[test]
     fn model_gives_the_fixed_lines() {
@@ -135,9 +135,7 @@ mod tests {
     fn replay_prints_the_fixed_lines() {
         for case in cases() {
             let (recording, expected) = recording_of(&case);
-            let mut lines = Vec::new();
-            replay(recording.as_slice(), &mut lines).unwrap();
-            assert_eq!(String::from_utf8(lines).unwrap(), expected, "{}", case.name);
+            assert_eq!(lines_of(&recording), expected, "{}", case.name);
         }
     }
 

@@ -9,6 +9,9 @@ pub const OVERRIDES: usize = 1;
 pub const HANDOVERS: usize = 2;
 pub const RELEASES: usize = 3;
 
+/// The largest number, at which a tally stays.
+pub const MOST: u32 = u32::MAX;
+
 /// Bytes of a message up to the new host of a handover.
 const KEPT: usize = 10;
 

@@ -1,12 +1,12 @@
 //! Compares long runs of calls on one set of memories, most of them requests, releases and
 //! handovers that are carried out.
 
-use crate::access::{has_list, row_words, LIST_FAULTS};
+use crate::access::{row_words, LIST_FAULTS};
 use crate::board::{Board, NO_HOST, ROWS};
 use crate::description::take_board;
 use crate::harness::compare::calls::{Calls, Memory};
-use crate::harness::compare::ledger::{GRANTS, RELEASES};
-use crate::harness::compare::pair::{Pair, Start, MOST};
+use crate::harness::compare::ledger::{GRANTS, MOST, RELEASES};
+use crate::harness::compare::pair::{Pair, Start};
 use crate::harness::coverage::Coverage;
 use crate::harness::generate::blocks::{any_block, good_block};
 use crate::harness::generate::descriptions::good_fields;
@@ -14,12 +14,13 @@ use crate::harness::generate::drafts::{draft, Scene};
 use crate::harness::generate::goals::{goals, pick_goal, Goal};
 use crate::harness::generate::lists::{faulty_list, good_list};
 use crate::harness::generate::random::Random;
+use crate::harness::Run;
 use crate::manager::{Call, Setup};
 use crate::message::{
     ANSWER_BYTES, LONGEST_MESSAGE, MSG_PROC_HANDOVER, MSG_PROC_RELEASE, MSG_PROC_REQUEST,
 };
 use crate::outcome::Outcome;
-use crate::session::LONGEST_BLOCK;
+use crate::session::{LONGEST_BLOCK, LONGEST_LIST};
 
 /// Calls of a session behind its list.
 const FEWEST_CALLS: usize = 300;
@@ -30,7 +31,6 @@ const MOST_CALLS: usize = 1200;
 const LONGER_EVERY: u64 = 8;
 const LONGER_CALLS: usize = 4000;
 
-const LONGEST_LIST: usize = 512;
 const MOST_WORDS: usize = 300;
 
 /// Numbers that other sessions are to count past, if they do not start from zeros, and how far below
@@ -154,13 +154,8 @@ impl<C: Calls> Driver<'_, C> {
 
     /// A message toward a goal that the state allows.
     fn send_toward(&mut self, goals: &[Goal]) -> Result<(), String> {
-        let listed = has_list(&self.pair.model.access);
-        let goal = pick_goal(&mut self.random, goals, |outcome| match outcome {
-            Outcome::R1 | Outcome::R2 => true,
-            Outcome::N1 => !listed,
-            _ => listed,
-        });
         let Memory { board, access, records } = &self.pair.model;
+        let goal = pick_goal(&mut self.random, goals, access, Run::Calls);
         let setup = Setup { board, access };
         let focus = &self.focus;
         let scene = Scene { setup, records, status: &[], focus, most_words: MOST_WORDS };
@@ -261,7 +256,6 @@ mod tests {
     use crate::block::Abi;
     use crate::harness::compare::calls::Model;
     use crate::harness::compare::pair::{ROW_WORDS, TALLIES};
-    use crate::harness::situations::Run;
 
     /// The calls of the model, but for the records that a message leaves.
     struct Spoiled(fn(&Memory, &mut Memory));

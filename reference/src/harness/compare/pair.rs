@@ -7,7 +7,7 @@ use crate::board::{Board, ROWS};
 use crate::description::take_board;
 use crate::harness::clusters::Clusters;
 use crate::harness::compare::calls::{line_of, message_line, same, Calls, Memory};
-use crate::harness::compare::ledger::{Account, Ledger, GRANTS, RELEASES};
+use crate::harness::compare::ledger::{Account, Ledger, GRANTS, MOST, RELEASES};
 use crate::harness::coverage::Coverage;
 use crate::harness::situations::blocks::Offered;
 use crate::harness::situations::boards::Listed;
@@ -20,9 +20,6 @@ use crate::session::Event;
 pub const ROW_WORDS: usize = 8;
 pub const TALLIES: usize = 4;
 const CONTROLLER: usize = 0;
-
-/// The largest number, at which a tally stays.
-pub const MOST: u32 = u32::MAX;
 
 /// Tallies by row, in the order of the record.
 pub type Start = [[u32; 4]; ROWS];

@@ -62,7 +62,7 @@ mod tests {
     use crate::harness::generate::random::Random;
     use crate::harness::situations::blocks::{CALLED, PARTS};
     use crate::harness::situations::hierarchies::HIERARCHIES;
-    use crate::harness::situations::Run;
+    use crate::harness::Run;
 
     #[test]
     fn library_calls_leave_no_gap() {

@@ -109,22 +109,18 @@ fn spoiled(whole: &[u8], start: usize) -> Vec<Vec<u8>> {
 #[cfg(test)]
 mod tests {
     use super::*;
-    use crate::session::replay;
+    use crate::session::lines_of;
 
     #[test]
     fn four_processor_bytes_are_on_the_board() {
-        let mut lines = Vec::new();
-        replay(processor_recording().as_slice(), &mut lines).unwrap();
-        let text = String::from_utf8(lines).unwrap();
+        let text = lines_of(&processor_recording());
         let off_board = text.lines().filter(|line| line.starts_with("N6")).count();
         assert_eq!(off_board, 252 * 7 * 4);
     }
 
     #[test]
     fn waits_are_refused_beyond_their_limits() {
-        let mut lines = Vec::new();
-        replay(wait_recording().as_slice(), &mut lines).unwrap();
-        let text = String::from_utf8(lines).unwrap();
+        let text = lines_of(&wait_recording());
         let count = |outcome| text.lines().filter(|line| line.starts_with(outcome)).count();
         // All six with 0 waits, four with 1, one with 255, and three with each of the others.
         let refused = 6 + 4 + 1 + 3 * 253;
@@ -137,9 +133,7 @@ mod tests {
         let endings = ["bad record\n", "cut record\n", "list A2\nboard OK\n"];
         let mut counts = [0; 3];
         for recording in edge_recordings() {
-            let mut lines = Vec::new();
-            replay(recording.as_slice(), &mut lines).unwrap();
-            let text = String::from_utf8(lines).unwrap();
+            let text = lines_of(&recording);
             for (count, ending) in counts.iter_mut().zip(endings) {
                 *count += usize::from(text.ends_with(ending));
             }

@@ -240,7 +240,7 @@ pub fn mixed_clients(random: &mut Random) -> Vec<Sent> {
 mod tests {
     use super::*;
     use crate::harness::generate::recordings::{field, message_field, status_field};
-    use crate::session::{replay, TAG_LIST};
+    use crate::session::{lines_of, TAG_LIST};
 
     /// The lines of a client that works alone, with its cores idle.
     fn lines(sent: &[Sent]) -> Vec<String> {
@@ -249,10 +249,7 @@ mod tests {
         for (channel, message) in sent {
             recording.extend(message_field(*channel, message));
         }
-        let mut lines = Vec::new();
-        replay(recording.as_slice(), &mut lines).unwrap();
-        let text = String::from_utf8(lines).unwrap();
-        text.lines().skip(1).map(str::to_string).collect()
+        lines_of(&recording).lines().skip(1).map(str::to_string).collect()
     }
 
     fn outcomes(sent: &[Sent]) -> Vec<String> {

@@ -83,6 +83,18 @@ fn distinct_numbers(random: &mut Random, count: usize) -> Vec<u8> {
     numbers
 }
 
+/// A good description, one with a fault or, once in so many times, noise.
+pub fn any_description(random: &mut Random, times: usize, longest: usize) -> Vec<u8> {
+    match random.below(times) {
+        0 => random.noise(longest),
+        1 | 2 => good_fields(random).concat(),
+        _ => {
+            let fault = random.pick(&BOARD_FAULTS);
+            faulty_description(random, fault, longest)
+        }
+    }
+}
+
 /// A description with the given fault, sometimes with others as well, cut to the longest. It cannot
 /// have A1 in itself, so nothing is planted for that.
 pub fn faulty_description(random: &mut Random, fault: BoardFault, longest: usize) -> Vec<u8> {

@@ -1,10 +1,11 @@
 //! What a message can come to: the combinations of type, outcome and answer asked or not, worked
 //! out from the order of the tests, and the roles that a request can tell.
 
-use crate::access::Role;
+use crate::access::{has_list, AccessMemory, Role};
 use crate::board::Board;
 use crate::harness::clusters::Clusters;
 use crate::harness::generate::random::Random;
+use crate::harness::Run;
 use crate::message::{read_order, Header, Kind, Order, KINDS};
 use crate::outcome::Outcome;
 use Outcome::{N1, N2, N3, N4, N5, N6, N7, N8, N9, OK, R1, R2, R3};
@@ -165,13 +166,19 @@ pub fn goals() -> Vec<Goal> {
     goals
 }
 
-/// One of the goals that pass the test, of which there is at least one, or now and then a request
-/// that tells a role.
-pub fn pick_goal(random: &mut Random, goals: &[Goal], test: impl Fn(Outcome) -> bool) -> Goal {
+/// One of the goals that the access memory and the run allow, or now and then a request that tells a
+/// role.
+pub fn pick_goal(random: &mut Random, goals: &[Goal], access: &AccessMemory, run: Run) -> Goal {
     loop {
         let goal =
             if random.one_in(TOLD_EVERY) { Goal::any_told(random) } else { random.pick(goals) };
-        if test(goal.outcome) {
+        let possible = match goal.outcome {
+            R1 => run == Run::Calls,
+            R2 => true,
+            N1 => !has_list(access),
+            _ => has_list(access),
+        };
+        if possible {
             return goal;
         }
     }

@@ -1,6 +1,8 @@
 //! Makes access lists: good ones, and ones with one or several faults.
 
-use crate::access::{ListFault, ENTRY_BYTES, LIST_BYTES, LIST_HEADER_BYTES, LIST_MAGIC};
+use crate::access::{
+    ListFault, ENTRY_BYTES, LIST_BYTES, LIST_FAULTS, LIST_HEADER_BYTES, LIST_MAGIC,
+};
 use crate::board::{Board, NO_HOST};
 use crate::harness::generate::random::Random;
 
@@ -11,6 +13,18 @@ const ODD_HOSTS: [u16; 12] = [1, 2, 7, 14, 255, 256, 259, 266, 268, 0x0300, 0x0A
 
 /// Lengths worth trying besides random ones; 164 is the older form of the list.
 const ODD_LENGTHS: [usize; 9] = [0, 1, 3, 4, 13, 164, 291, 293, 512];
+
+/// A good list, one with a fault, or noise.
+pub fn any_list(random: &mut Random, board: &Board, longest: usize) -> Vec<u8> {
+    match random.below(8) {
+        0 => random.noise(longest),
+        1 => good_list(random, board),
+        _ => {
+            let fault = random.pick(&LIST_FAULTS);
+            faulty_list(random, board, fault, longest)
+        }
+    }
+}
 
 /// A list that the board takes: entries for some of the processors or for all, anywhere in the
 /// list, and sometimes odd bytes in the unused entries.
@@ -196,7 +210,7 @@ fn flip_bit(random: &mut Random, list: &mut [u8], at: usize) {
 #[cfg(test)]
 mod tests {
     use super::*;
-    use crate::access::{accept_list, ACCESS_WORDS, LIST_FAULTS};
+    use crate::access::{accept_list, ACCESS_WORDS};
     use crate::harness::generate::memories::any_board;
 
     #[test]

@@ -1,4 +1,4 @@
-//! Lent memories of any content, with guards around them.
+//! Lent memories of any content.
 
 use crate::access::{accept_list, row_words_mut, AccessMemory, ACCESS_WORDS};
 use crate::board::{flag_mask, Board, Word, BOARD_BYTES, ROWS};
@@ -8,9 +8,6 @@ use crate::harness::generate::descriptions::{first_fields, good_fields};
 use crate::harness::generate::lists::good_list;
 use crate::harness::generate::random::Random;
 use crate::record::{Record, RecordMemory, Tallies, RECORD_WORDS};
-
-/// Words or bytes on each side of what is lent, which must keep their values.
-pub const GUARD: usize = 5;
 
 /// Where board memory has hosts, places, classes and homes, and where it ends.
 const BOARD_PARTS: [usize; 5] = [0, 256, 512, 544, BOARD_BYTES];
@@ -178,20 +175,4 @@ fn hosts_and_none(board: &Board) -> Vec<u16> {
     let mut hosts = board.senders();
     hosts.resize(hosts.len() + hosts.len() / 7 + 1, 0);
     hosts
-}
-
-/// The content with guards before and behind it.
-pub fn guarded<T: Copy>(content: &[T], guard: T) -> Vec<T> {
-    let guards = [guard; GUARD];
-    [&guards, content, &guards].concat()
-}
-
-/// What lies between the guards.
-pub fn between_guards<T>(guarded: &[T]) -> &[T] {
-    &guarded[GUARD..guarded.len() - GUARD]
-}
-
-/// A memory that lies between the guards, to be lent.
-pub fn lent_part<T, const N: usize>(guarded: &mut [T]) -> &mut [T; N] {
-    guarded[GUARD..].first_chunk_mut().expect("the content lies between guards")
 }

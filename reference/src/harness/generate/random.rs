@@ -76,6 +76,12 @@ impl Random {
         (0..count).map(|_| self.u8()).collect()
     }
 
+    /// Bytes, up to this many.
+    pub fn noise(&mut self, longest: usize) -> Vec<u8> {
+        let count = self.between(0, longest);
+        self.bytes(count)
+    }
+
     /// This many 32-bit numbers.
     pub fn words(&mut self, count: usize) -> Vec<u32> {
         (0..count).map(|_| self.u32()).collect()

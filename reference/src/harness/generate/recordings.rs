@@ -8,23 +8,25 @@ use crate::description::{take_board, BOARD_FAULTS};
 use crate::harness::clusters::Clusters;
 use crate::harness::generate::blocks::{any_block, faulty_block, good_block};
 use crate::harness::generate::clients::{client_list, client_status, mixed_clients};
-use crate::harness::generate::descriptions::{faulty_description, first_fields, good_fields};
+use crate::harness::generate::descriptions::{
+    any_description, faulty_description, first_fields, good_fields,
+};
 use crate::harness::generate::drafts::{any_focus, draft, Scene, LONGEST_RECORDED};
 use crate::harness::generate::goals::{goals, pick_goal, Goal};
 use crate::harness::generate::lists::{faulty_list, good_list};
 use crate::harness::generate::random::Random;
+use crate::harness::Run;
 use crate::manager::{handle, Call, Setup};
 use crate::message::ANSWER_BYTES;
 use crate::outcome::Outcome;
 use crate::record::{Record, RecordMemory, RECORD_WORDS};
 use crate::session::{
-    LONGEST_BLOCK, LONGEST_BOARD, RECORDED_ABI, TAG_BLOCK, TAG_BOARD, TAG_LIST, TAG_MESSAGE,
-    TAG_STATUS,
+    LONGEST_BLOCK, LONGEST_BOARD, LONGEST_LIST, RECORDED_ABI, TAG_BLOCK, TAG_BOARD, TAG_LIST,
+    TAG_MESSAGE, TAG_STATUS,
 };
 
-/// The most status words and the longest list that a recording can hold.
+/// The most status words that a recording can hold.
 const MOST_WORDS: usize = 255;
-const LONGEST_LIST: usize = 512;
 
 /// Status answers at the end of a steered recording, which show what the records hold.
 const LAST_LOOKS: usize = 6;
@@ -195,17 +197,7 @@ impl Recorder {
 
     /// A good description, one with a fault, or noise.
     fn offer_board(&mut self) {
-        let description = match self.random.below(6) {
-            0 => {
-                let length = self.random.between(0, LONGEST_BOARD);
-                self.random.bytes(length)
-            }
-            1 | 2 => good_fields(&mut self.random).concat(),
-            _ => {
-                let fault = self.random.pick(&BOARD_FAULTS);
-                faulty_description(&mut self.random, fault, LONGEST_BOARD)
-            }
-        };
+        let description = any_description(&mut self.random, 6, LONGEST_BOARD);
         self.board(&description);
     }
 
@@ -252,8 +244,7 @@ impl Recorder {
                 self.status(words);
             }
             2 => {
-                let length = self.random.between(0, LONGEST_RECORDED);
-                let noise = self.random.bytes(length);
+                let noise = self.random.noise(LONGEST_RECORDED);
                 let channel = self.random.u8();
                 self.message(channel, &noise);
             }
@@ -270,18 +261,12 @@ impl Recorder {
     /// needed and often lacking, and sometimes a look at the records behind it: through another
     /// core where a word of a cluster was set.
     fn approach(&mut self, goals: &[Goal]) {
-        let listed = has_list(&self.access);
-        let goal = pick_goal(&mut self.random, goals, |outcome| match outcome {
-            Outcome::R1 => false,
-            Outcome::R2 => true,
-            Outcome::N1 => !listed,
-            _ => listed,
-        });
+        let goal = pick_goal(&mut self.random, goals, &self.access, Run::Recordings);
         if goal.needs_controller() && self.is_often_free() {
             self.send_toward(Goal::REQUEST);
         }
         let look = self.send_toward(goal);
-        if listed && goal.outcome == Outcome::OK && self.random.one_in(2) {
+        if has_list(&self.access) && goal.outcome == Outcome::OK && self.random.one_in(2) {
             self.send_toward(look.unwrap_or(Goal::STATUS));
         }
     }
@@ -377,8 +362,7 @@ mod tests {
     use crate::block::{BLOCK_BYTES, HIERARCHY_AT, LIST_AT};
     use crate::harness::coverage::Coverage;
     use crate::harness::edges::recordings::edge_recordings;
-    use crate::harness::situations::Run;
-    use crate::session::replay;
+    use crate::session::lines_of;
 
     #[test]
     fn recordings_leave_no_gap() {
@@ -408,9 +392,7 @@ mod tests {
 
     /// The lines of messages, and how many of blocks and lists were accepted.
     fn message_lines(recording: &[u8]) -> (Vec<String>, usize) {
-        let mut lines = Vec::new();
-        replay(recording, &mut lines).unwrap();
-        let text = String::from_utf8(lines).unwrap();
+        let text = lines_of(recording);
         let (offers, messages): (Vec<_>, Vec<_>) =
             text.lines().map(str::to_string).partition(|line| line.starts_with(['b', 'l']));
         let accepted =

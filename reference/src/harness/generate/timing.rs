@@ -87,7 +87,7 @@ fn next_cycle(random: &mut Random) -> Vec<Sent> {
 #[cfg(test)]
 mod tests {
     use super::*;
-    use crate::session::replay;
+    use crate::session::lines_of;
 
     fn recording(board: TimedBoard) -> Vec<u8> {
         let mut recording = Vec::new();
@@ -105,11 +105,7 @@ mod tests {
     /// A changed byte may name another processor or host, which only the larger board has.
     #[test]
     fn nearly_all_lines_are_the_same_on_both_boards() {
-        let lines = |board| {
-            let mut lines = Vec::new();
-            replay(recording(board).as_slice(), &mut lines).unwrap();
-            String::from_utf8(lines).unwrap()
-        };
+        let lines = |board| lines_of(&recording(board));
         let (first, full) = (lines(TimedBoard::First), lines(TimedBoard::Full));
         let behind = full.strip_prefix("board OK\n").unwrap();
         assert!(first.starts_with("list OK\n") && behind.starts_with("list OK\n"));

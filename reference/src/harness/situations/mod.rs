@@ -11,20 +11,12 @@ pub mod sessions;
 mod tallies;
 mod waits;
 
+use crate::harness::Run;
 use blocks::Offered;
 use boards::{Listed, Offer};
 use fields::Field;
 use seen::{Met, Seen};
 use sessions::LongSession;
-
-/// What is to meet the situations.
-#[derive(Clone, Copy, Debug, PartialEq, Eq)]
-pub enum Run {
-    /// the replay program over recordings
-    Recordings,
-    /// calls to the static library
-    Calls,
-}
 
 const BOTH: &[Run] = &[Run::Recordings, Run::Calls];
 

@@ -1,10 +1,7 @@
 //! Situations of long sessions: what they start from, and how far they take the tallies.
 
-use crate::harness::compare::ledger::{GRANTS, HANDOVERS, OVERRIDES, RELEASES};
+use crate::harness::compare::ledger::{GRANTS, HANDOVERS, MOST, OVERRIDES, RELEASES};
 use crate::harness::situations::Named;
-
-/// The largest number, at which a tally stays.
-const MOST: u32 = u32::MAX;
 
 /// What a long session came to.
 #[derive(Default)]

@@ -1,5 +1,6 @@
 //! Situations of tallies: what counts and what does not, and from which numbers.
 
+use crate::harness::compare::ledger::MOST;
 use crate::harness::situations::seen::Seen;
 use crate::harness::situations::Named;
 use crate::message::Kind;
@@ -7,9 +8,6 @@ use crate::outcome::Outcome;
 use crate::record::Tallies;
 use Kind::{GetStatus, Handover, Release, Request, SetConfig, SetControl, WaitStatus};
 use Outcome::{N7, N8, OK};
-
-/// The largest number, at which a tally stays.
-const MOST: u32 = u32::MAX;
 
 impl Seen<'_> {
     fn granted(&self) -> bool {
