@@ -8,11 +8,9 @@ use std::time::{SystemTime, UNIX_EPOCH};
 use pomrozek_reference::bench::cases;
 use pomrozek_reference::harness::compare::calls::Model;
 use pomrozek_reference::harness::compare::cases::{recording_of, run_case};
-use pomrozek_reference::harness::compare::library::messages::compare_messages;
-use pomrozek_reference::harness::compare::library::offers::{
-    compare_blocks, compare_boards, compare_lists, compare_starts,
+use pomrozek_reference::harness::compare::library::{
+    compare_blocks, compare_boards, compare_lists, compare_messages, compare_starts, StaticLibrary,
 };
-use pomrozek_reference::harness::compare::library::StaticLibrary;
 use pomrozek_reference::harness::compare::long_sessions::compare_sessions;
 use pomrozek_reference::harness::compare::program::{first_difference, keep, run};
 use pomrozek_reference::harness::coverage::Coverage;

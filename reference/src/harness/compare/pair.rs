@@ -9,10 +9,7 @@ use crate::harness::clusters::Clusters;
 use crate::harness::compare::calls::{line_of, message_line, same, Calls, Memory};
 use crate::harness::compare::ledger::{Account, Ledger, GRANTS, MOST, RELEASES};
 use crate::harness::coverage::Coverage;
-use crate::harness::situations::blocks::Offered;
-use crate::harness::situations::boards::Listed;
-use crate::harness::situations::seen::{Met, Watch};
-use crate::harness::situations::sessions::LongSession;
+use crate::harness::situations::{Listed, LongSession, Met, Offered, Watch};
 use crate::manager::{handle, Call, Setup};
 use crate::session::Event;
 

@@ -5,7 +5,7 @@ use std::collections::BTreeSet;
 use crate::block::{BlockFault, BLOCK_FAULTS};
 use crate::harness::coverage::faults::{name, FaultPairs};
 use crate::harness::coverage::verdicts::Verdicts;
-use crate::harness::situations::blocks::Offered;
+use crate::harness::situations::Offered;
 use crate::session::LONGEST_BLOCK;
 
 /// How often each was met.
@@ -54,30 +54,7 @@ impl BlockCounts {
 #[cfg(test)]
 mod tests {
     use super::*;
-    use crate::block::accept_block;
     use crate::board::Board;
-    use crate::harness::coverage::Coverage;
-    use crate::harness::edges::block_recordings::edge_calls;
-    use crate::harness::generate::blocks::{any_block_call, BlockCall};
-    use crate::harness::generate::random::Random;
-    use crate::harness::situations::blocks::{CALLED, PARTS};
-    use crate::harness::situations::hierarchies::HIERARCHIES;
-    use crate::harness::Run;
-
-    #[test]
-    fn library_calls_leave_no_gap() {
-        let mut coverage = Coverage::default();
-        let random = (0..6000).map(|number| any_block_call(&mut Random::new(24, number)));
-        for BlockCall { board, mut access, abi, block } in edge_calls().into_iter().chain(random) {
-            let verdict = accept_block(&board, &mut access, abi, &block);
-            coverage.count_block(&Offered { board: &board, abi, block: &block, verdict });
-        }
-        assert_eq!(coverage.blocks.gaps(), [""; 0]);
-        let gaps = coverage.gaps(Run::Calls);
-        for (name, _) in [HIERARCHIES, PARTS, CALLED].concat() {
-            assert!(!gaps.contains(&format!("{name}: 0")), "{name}");
-        }
-    }
 
     #[test]
     fn gaps_are_filled_one_by_one() {

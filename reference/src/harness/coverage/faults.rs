@@ -6,7 +6,7 @@ use crate::block::{
     OTP_AT, OTP_BYTES, OTP_MAGIC,
 };
 use crate::bytes::u16_at;
-use crate::harness::situations::blocks::Offered;
+use crate::harness::situations::Offered;
 
 const A1: BlockFault = BlockFault::List(ListFault::A1);
 

@@ -12,12 +12,9 @@ use crate::access::LIST_FAULTS;
 use crate::description::{BoardFault, BOARD_FAULTS};
 use crate::harness::clusters::Clusters;
 use crate::harness::generate::goals::{goals, Subject, POSSIBLE, SUBJECTS};
-use crate::harness::situations::blocks::Offered;
-use crate::harness::situations::boards::{Listed, Offer};
-use crate::harness::situations::fields::{Field, History};
-use crate::harness::situations::seen::{Met, Seen, Watch};
-use crate::harness::situations::sessions::LongSession;
-use crate::harness::situations::{Observed, Situations};
+use crate::harness::situations::{
+    Field, History, Listed, LongSession, Met, Observed, Offer, Offered, Seen, Situations, Watch,
+};
 use crate::harness::Run;
 use crate::message::HEADER_BYTES;
 use crate::outcome::{Outcome, OUTCOMES};

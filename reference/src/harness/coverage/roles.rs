@@ -5,7 +5,7 @@ use std::fmt::Write;
 
 use crate::access::{Role, ROLES};
 use crate::harness::generate::goals::{Subject, POSSIBLE};
-use crate::harness::situations::seen::Met;
+use crate::harness::situations::Met;
 use crate::harness::Run;
 use crate::message::{Kind, KINDS};
 use crate::outcome::{Outcome, OUTCOMES};

@@ -1,13 +1,13 @@
 //! Situations of blocks that a run has to meet: header fields and ABI bytes, what is not judged,
 //! and what only calls to the static library can have.
 
-use crate::access::{ENTRY_BYTES, LIST_HEADER_BYTES};
 use crate::block::{
     Abi, BlockFault, BLOCK_BYTES, HIERARCHY_AT, HIERARCHY_BYTES, HIERARCHY_MAGIC, LIST_AT, OTP_AT,
     OTP_BYTES, OTP_MAGIC, PART_HEADER_BYTES,
 };
 use crate::board::{Board, ROWS};
 use crate::bytes::u16_at;
+use crate::harness::situations::boards::used_entries;
 use crate::harness::situations::Named;
 use crate::session::{LONGEST_BLOCK, RECORDED_ABI};
 use BlockFault::{B1, B10, B2, B3, B4, B9};
@@ -37,8 +37,7 @@ impl Offered<'_> {
 
     /// The used entries of the list that are there.
     pub fn list_entries(&self) -> Vec<&[u8]> {
-        let entries = self.bytes(LIST_AT + LIST_HEADER_BYTES, HIERARCHY_AT);
-        entries.chunks_exact(ENTRY_BYTES).filter(|entry| entry[0] != 0).collect()
+        used_entries(self.bytes(LIST_AT, HIERARCHY_AT))
     }
 
     /// Whether the board lacks this host.

@@ -4,8 +4,7 @@
 use crate::access::{ListFault, ENTRY_BYTES, LIST_HEADER_BYTES};
 use crate::board::{Board, Class, FIRST_HOSTS, FIRST_PROCESSORS, MOST_HOSTS, ROWS};
 use crate::description::{BoardFault, Description, Item, TAG_HOST, TAG_PROCESSOR};
-use crate::harness::situations::seen::{Met, Seen};
-use crate::harness::situations::Named;
+use crate::harness::situations::{Met, Named, Seen};
 use crate::message::HEADER_BYTES;
 use crate::outcome::Outcome;
 
@@ -124,9 +123,7 @@ pub struct Listed<'a> {
 impl Listed<'_> {
     /// The processors of its used entries.
     fn processors(&self) -> Vec<u8> {
-        let entries = self.list.get(LIST_HEADER_BYTES..).unwrap_or_default();
-        let processors = entries.chunks_exact(ENTRY_BYTES).map(|entry| entry[0]);
-        processors.filter(|&processor| processor != 0).collect()
+        used_entries(self.list).iter().map(|entry| entry[0]).collect()
     }
 
     /// Whether it names a processor of the first board, which this board lacks.
@@ -134,6 +131,12 @@ impl Listed<'_> {
         let gone = |number: &u8| self.board.row_of(*number).is_none() && in_first(*number);
         self.processors().first().is_some_and(gone)
     }
+}
+
+/// The used entries of a list, as far as it has them.
+pub fn used_entries(list: &[u8]) -> Vec<&[u8]> {
+    let entries = list.get(LIST_HEADER_BYTES..).unwrap_or_default();
+    entries.chunks_exact(ENTRY_BYTES).filter(|entry| entry[0] != 0).collect()
 }
 
 /// Lists under boards.

@@ -5,8 +5,7 @@ use crate::block::{
     supervisor_of, BlockFault, Link, HIERARCHY_AT, HIERARCHY_ENTRIES, OTP_AT, PART_HEADER_BYTES,
 };
 use crate::board::Board;
-use crate::harness::situations::blocks::Offered;
-use crate::harness::situations::Named;
+use crate::harness::situations::{Named, Offered};
 use BlockFault::{B5, B6, B7, B8};
 
 /// Where following supervisors leads.

@@ -1,27 +1,28 @@
 //! The situations that a run has to meet: one table of names and tests, and how often each was met.
 
-pub mod blocks;
-pub mod boards;
-pub mod fields;
-pub mod hierarchies;
+mod blocks;
+mod boards;
+mod fields;
+mod hierarchies;
 mod orders;
 mod roles;
-pub mod seen;
-pub mod sessions;
+mod seen;
+mod sessions;
 mod tallies;
 mod waits;
 
+pub use blocks::Offered;
+pub use boards::{Listed, Offer};
+pub use fields::{Field, History};
+pub use seen::{Met, Seen, Watch};
+pub use sessions::LongSession;
+
 use crate::harness::Run;
-use blocks::Offered;
-use boards::{Listed, Offer};
-use fields::Field;
-use seen::{Met, Seen};
-use sessions::LongSession;
 
 const BOTH: &[Run] = &[Run::Recordings, Run::Calls];
 
 /// Situations of one kind: names with tests of what was observed.
-pub type Named<T> = &'static [(&'static str, T)];
+type Named<T> = &'static [(&'static str, T)];
 
 /// The whole table. Only calls can meet long sessions and what no list, description or recording
 /// leaves or says; only recordings have fields one behind the other.
@@ -147,10 +148,30 @@ mod tests {
     use std::collections::BTreeSet;
 
     use super::*;
+    use crate::block::accept_block;
+    use crate::harness::coverage::Coverage;
+    use crate::harness::edges::block_recordings::edge_calls;
+    use crate::harness::generate::blocks::{any_block_call, BlockCall};
+    use crate::harness::generate::random::Random;
 
     #[test]
     fn names_differ() {
         let names: BTreeSet<_> = table().iter().map(|situation| situation.name).collect();
         assert_eq!(names.len(), table().len());
+    }
+
+    #[test]
+    fn block_calls_leave_no_gap_of_blocks() {
+        let mut coverage = Coverage::default();
+        let random = (0..6000).map(|number| any_block_call(&mut Random::new(24, number)));
+        for BlockCall { board, mut access, abi, block } in edge_calls().into_iter().chain(random) {
+            let verdict = accept_block(&board, &mut access, abi, &block);
+            coverage.count_block(&Offered { board: &board, abi, block: &block, verdict });
+        }
+        let named = [hierarchies::HIERARCHIES, blocks::PARTS, blocks::CALLED].concat();
+        let is_named = |gap: &String| named.iter().any(|(name, _)| *gap == format!("{name}: 0"));
+        let mut gaps = coverage.gaps(Run::Calls);
+        gaps.retain(|gap| gap.starts_with("block ") || is_named(gap));
+        assert_eq!(gaps, [""; 0]);
     }
 }

@@ -2,8 +2,7 @@
 //! cores share or not, and boards at their limits.
 
 use crate::board::{Board, MOST_HOSTS, ROWS};
-use crate::harness::situations::seen::Seen;
-use crate::harness::situations::Named;
+use crate::harness::situations::{Named, Seen};
 use crate::manager::GEN_IGN_BOOTVECTOR;
 use crate::message::{Order, ANSWER_BYTES};
 use crate::outcome::Outcome;

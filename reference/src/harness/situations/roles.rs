@@ -4,8 +4,7 @@
 use crate::access::Role;
 use crate::board::NO_HOST;
 use crate::harness::generate::goals::Subject;
-use crate::harness::situations::seen::{Met, Seen};
-use crate::harness::situations::Named;
+use crate::harness::situations::{Met, Named, Seen};
 use crate::message::Kind;
 use crate::outcome::Outcome;
 

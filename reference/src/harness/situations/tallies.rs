@@ -1,8 +1,7 @@
 //! Situations of tallies: what counts and what does not, and from which numbers.
 
 use crate::harness::compare::ledger::MOST;
-use crate::harness::situations::seen::Seen;
-use crate::harness::situations::Named;
+use crate::harness::situations::{Named, Seen};
 use crate::message::Kind;
 use crate::outcome::Outcome;
 use crate::record::Tallies;
@@ -133,8 +132,7 @@ mod tests {
     use crate::access::ACCESS_WORDS;
     use crate::bench::bytes_of;
     use crate::board::Board;
-    use crate::harness::situations::holding;
-    use crate::harness::situations::seen::Watch;
+    use crate::harness::situations::{holding, Watch};
     use crate::manager::{handle, Call, Setup};
     use crate::message::ANSWER_BYTES;
     use crate::record::{Record, RECORD_WORDS};

@@ -1,8 +1,7 @@
 //! Situations of waits: where a run ends or breaks, how many words are lent, and matches that are
 //! equal to the waits or above them.
 
-use crate::harness::situations::seen::Seen;
-use crate::harness::situations::Named;
+use crate::harness::situations::{Named, Seen};
 use crate::message::{Order, HEADER_BYTES};
 use crate::outcome::Outcome;
 use crate::wait::Wait;
@@ -136,8 +135,7 @@ mod tests {
     use super::*;
     use crate::access::ACCESS_WORDS;
     use crate::board::Board;
-    use crate::harness::situations::holding;
-    use crate::harness::situations::seen::Watch;
+    use crate::harness::situations::{holding, Watch};
     use crate::manager::{handle, Call, Setup};
     use crate::message::ANSWER_BYTES;
     use crate::record::RECORD_WORDS;

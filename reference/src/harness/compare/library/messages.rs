@@ -8,7 +8,7 @@ use crate::harness::generate::drafts::{any_focus, draft, Scene, LONGEST_RECORDED
 use crate::harness::generate::goals::{goals, pick_goal, Goal};
 use crate::harness::generate::memories::{any_access, any_board, any_records, LentBoard};
 use crate::harness::generate::random::Random;
-use crate::harness::situations::seen::{Met, Watch};
+use crate::harness::situations::{Met, Watch};
 use crate::harness::Run;
 use crate::manager::{handle, Call, Setup};
 use crate::message::ANSWER_BYTES;

@@ -2,8 +2,11 @@
 //! what a recording cannot say.
 
 mod lent;
-pub mod messages;
-pub mod offers;
+mod messages;
+mod offers;
+
+pub use messages::compare_messages;
+pub use offers::{compare_blocks, compare_boards, compare_lists, compare_starts};
 
 use crate::block::Abi;
 use crate::board::{Board, BOARD_BYTES};

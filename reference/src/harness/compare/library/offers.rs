@@ -15,8 +15,7 @@ use crate::harness::generate::descriptions::any_description;
 use crate::harness::generate::lists::any_list;
 use crate::harness::generate::memories::{any_access_before, any_board};
 use crate::harness::generate::random::Random;
-use crate::harness::situations::blocks::Offered;
-use crate::harness::situations::boards::Listed;
+use crate::harness::situations::{Listed, Offered};
 use crate::static_library::{self, RawVerdict};
 
 const LONGEST_LIST: usize = 600;
