@@ -166,7 +166,7 @@ pub fn goals() -> Vec<Goal> {
     goals
 }
 
-/// One of the goals that the access memory and the run allow, or now and then a request that tells a
+/// One of the goals that the access memory and the run allow, now and then a request that tells a
 /// role.
 pub fn pick_goal(random: &mut Random, goals: &[Goal], access: &AccessMemory, run: Run) -> Goal {
     loop {

@@ -1,5 +1,5 @@
-//! Situations of orders inside an outcome: who gains, keeps and gives a processor, control words that
-//! cores share or not, and boards at their limits.
+//! Situations of orders inside an outcome: who gains, keeps and gives a processor, control words
+//! that cores share or not, and boards at their limits.
 
 use crate::board::{Board, MOST_HOSTS, ROWS};
 use crate::harness::situations::{Named, Seen};

@@ -1,5 +1,5 @@
-//! The static library: its calls with the lines that tell of them, and comparisons with the model on
-//! what a recording cannot say.
+//! The static library: its calls with the lines that tell of them, and comparisons with the model
+//! on what a recording cannot say.
 
 mod lent;
 mod messages;
