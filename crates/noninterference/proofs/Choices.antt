@@ -5,7 +5,7 @@ use mathlib.Core.List.{[], _∷_}
 use Rattle.rules.specs.Table.{firstOf, anyOf, allOf, placeOf, allFrom, tableOf}
 use Rattle.rules.specs.Board.{rowOf, onBoard, homeAt, homeOf, shareControl}
 use Rattle.rules.specs.Description.{nothingListed, ourDescription, bodySize, fieldGood, noItem, itemIn, fieldSize, itemsFrom, itemsIn, listsProcessor, withItem, withItems, descriptionIn, rowIn, sharedCluster, sharedIn, homeIn, shareWord, boardOf, ours}
-use Rattle.rules.specs.Boards.{packBytes}
+use Rattle.rules.specs.BenchBoard.{packBytes}
 use Rattle.noninterference.specs.Statement.{clustersWhole, clustersListed}
 
 -- {1}, {32, 33} and all four do

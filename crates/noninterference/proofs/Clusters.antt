@@ -20,7 +20,7 @@ use Rattle.rules.specs.Effect.{recordAfter}
 use Rattle.rules.specs.State.{listed, State, freeOwn, fresh, entryOf, recordIn, recordOf, viewOf, putIn, stored}
 use Rattle.rules.specs.Call.{list, verdictTo, taken, afterOffer, afterMessage, Call, next, offer}
 use Rattle.rules.specs.Sequence.{permittedFor, run}
-use Rattle.rules.specs.Cluster.{clusterList, request, setControl}
+use Rattle.rules.specs.BenchCluster.{clusterList, request, setControl}
 use Rattle.rules.proofs.Tests.{clash}
 use Rattle.noninterference.specs.Statement.{clustersWhole, Ready, insider, aboutChosen, picked, picks, Noninterference, listOf, loads}
 use Rattle.noninterference.proofs.Choices.{whole-choices, half-choices}

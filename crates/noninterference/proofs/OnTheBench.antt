@@ -17,7 +17,7 @@ use Rattle.rules.specs.State.{listed, State, fresh, entryOf}
 use Rattle.rules.specs.Call.{list, block, verdictTo, taken, afterOffer, Call, offer, next}
 use Rattle.rules.specs.Sequence.{permittedFor, run}
 use Rattle.rules.specs.Bench.{benchList, request, handover, setConfig}
-use Rattle.rules.specs.Blocks.{benchBlock}
+use Rattle.rules.specs.BenchBlock.{benchBlock}
 use Rattle.noninterference.specs.Statement.{clustersWhole, insider, aboutChosen, picked, picks, answers, Noninterference, listOf, loads}
 use Rattle.noninterference.proofs.Theorem.{freshly-loaded}
 

@@ -13,7 +13,7 @@ use Rattle.rules.specs.AccessList.{parts, entryTable, contentTable, listTable, 
 use Rattle.rules.specs.State.{State, fresh}
 use Rattle.rules.specs.Call.{board, list, offer}
 use Rattle.rules.specs.Sequence.{run}
-use Rattle.rules.specs.Boards.{packBytes, packList}
+use Rattle.rules.specs.BenchBoard.{packBytes, packList}
 use Rattle.noninterference.specs.Statement.{clustersListed, Noninterference, listOf, loads}
 use Rattle.noninterference.proofs.Theorem.{for-every-description}
 

@@ -23,12 +23,12 @@ use Rattle.rules.specs.Call.{verdictTo, taken, afterOffer, afterMessage,
 use Rattle.rules.specs.Sequence.{run}
 use Rattle.rules.specs.Warranty.{counts, countOf}
 use Rattle.rules.specs.Bench.{Case, givenIn, answerGiven, starred}
-use Rattle.rules.specs.Cluster.{clustered}
-use Rattle.rules.specs.Boards.{hostsFrom, processorsFrom, boarded}
-use Rattle.rules.specs.Roles.{RoleCase, shownIn, roled}
-use Rattle.rules.specs.Waits.{counted}
-use Rattle.rules.specs.Blocks.{LoopCase, hierarchyOf, blocked, looped}
-use Rattle.rules.specs.Counts.{TallyCase, heldFrom, talliedIn, tallied, CountCase, workedOut, countedIn, totalled}
+use Rattle.rules.specs.BenchCluster.{clustered}
+use Rattle.rules.specs.BenchBoard.{hostsFrom, processorsFrom, boarded}
+use Rattle.rules.specs.BenchRole.{RoleCase, shownIn, roled}
+use Rattle.rules.specs.BenchWait.{counted}
+use Rattle.rules.specs.BenchBlock.{LoopCase, hierarchyOf, blocked, looped}
+use Rattle.rules.specs.BenchTally.{TallyCase, heldFrom, talliedIn, tallied, CountCase, workedOut, countedIn, totalled}
 
 -- every case of a table gives what it says
 abbrev pub Hold : List Case → Type 0

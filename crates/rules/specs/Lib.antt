@@ -22,9 +22,9 @@ pub mod Call
 pub mod Sequence
 pub mod Warranty
 pub mod Bench
-pub mod Cluster
-pub mod Boards
-pub mod Roles
-pub mod Waits
-pub mod Blocks
-pub mod Counts
+pub mod BenchCluster
+pub mod BenchBoard
+pub mod BenchRole
+pub mod BenchWait
+pub mod BenchBlock
+pub mod BenchTally

@@ -14,7 +14,7 @@ use Rattle.rules.specs.AccessList.{entryTable, contentTable, listTable, verdict
 use Rattle.rules.specs.Hierarchy.{supervisorOf, meets, onLoop, firstHost, loopHost, pairTable, hierarchyTable, loopReported}
 use Rattle.rules.specs.Block.{otpTable, blockTable, blockVerdict}
 use Rattle.rules.specs.Bench.{benchList}
-use Rattle.rules.specs.Blocks.{benchBlock}
+use Rattle.rules.specs.BenchBlock.{benchBlock}
 use Rattle.access.specs.Memory.{listedIn}
 use Rattle.call_offer.specs.Loaded.{accessBy, accessAfter, accessAfterBlock}
 use Rattle.board.specs.Memory.{boardBytes}

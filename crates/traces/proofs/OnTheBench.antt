@@ -23,7 +23,7 @@ use Rattle.rules.specs.State.{listed, freeOwn, fresh, entryOf, recordIn, record
 use Rattle.rules.specs.Call.{verdictTo, taken, afterOffer, afterMessage, answerTo, Lent, next}
 use Rattle.rules.specs.Warranty.{counts, countOf}
 use Rattle.rules.specs.Bench.{benchList, header}
-use Rattle.rules.specs.Cluster.{clusterList}
+use Rattle.rules.specs.BenchCluster.{clusterList}
 use Rattle.noninterference.specs.Statement.{clustersWhole}
 use Rattle.access.specs.Memory.{listedIn, entryAt, entriesIn, someList, setupIn}
 use Rattle.access.specs.InForce.{wordsOf}

@@ -12,7 +12,7 @@ use Rattle.rules.specs.Board.{Board, boardHost, activeHost, rowOf, onBoard, hom
 use Rattle.rules.specs.Description.{nothingListed, bodySize, fieldGood, noItem, itemIn, fieldSize, itemsFrom, itemsIn, listsHost, listsProcessor, repeats, otherClass, isFull, itemTable, withItem, itemsTable, descriptionTable, boardVerdict, withItems, descriptionIn, markIn, rowIn, classIn, sharedCluster, sharedIn, homeIn, shareWord, boardOf, described, ours}
 use Rattle.rules.specs.Substructure.{partsOf, namedIn, inTurn}
 use Rattle.rules.specs.AccessList.{entryTable, contentTable, listTable, verdictOf}
-use Rattle.rules.specs.Boards.{packBytes, packList}
+use Rattle.rules.specs.BenchBoard.{packBytes, packList}
 use Rattle.noninterference.specs.Statement.{clustersWhole}
 use Rattle.board.specs.Memory.{boardIn, boardBytes}
 use Rattle.board.proofs.Read.{board-back}

@@ -9,7 +9,7 @@ use Rattle.rules.specs.declared.Verdict.the-variants.{Accepted, A1, A5, 
 use Rattle.rules.specs.Description.{ourBytes}
 use Rattle.rules.specs.Call.{board, list, Call, offer}
 use Rattle.rules.specs.Bench.{benchList, header, verdict, answer, Case, heldWith}
-use Rattle.rules.specs.Cluster.{request, setControl, getStatus, statusOf, recordWith}
+use Rattle.rules.specs.BenchCluster.{request, setControl, getStatus, statusOf, recordWith}
 
 -- ---- the descriptions of the cases
 

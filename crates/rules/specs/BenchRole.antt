@@ -10,7 +10,7 @@ use Rattle.rules.specs.declared.Role.the-variants.{None, Master, Seconda
 use Rattle.rules.specs.State.{State}
 use Rattle.rules.specs.Call.{list, answerTo, Lent, queryOf, Call, offer}
 use Rattle.rules.specs.Bench.{header}
-use Rattle.rules.specs.Cluster.{request}
+use Rattle.rules.specs.BenchCluster.{request}
 
 -- ---- the calls of the cases
 

@@ -12,9 +12,9 @@ use Rattle.rules.specs.Call.{list, block, answerTo, Lent, queryOf, Call,
 use Rattle.rules.specs.Sequence.{run}
 use Rattle.rules.specs.Warranty.{countOf}
 use Rattle.rules.specs.Bench.{header, loaded, benchList}
-use Rattle.rules.specs.Cluster.{clusterList, request, release, handover, setControl}
-use Rattle.rules.specs.Roles.{sentBy}
-use Rattle.rules.specs.Blocks.{benchBlock}
+use Rattle.rules.specs.BenchCluster.{clusterList, request, release, handover, setControl}
+use Rattle.rules.specs.BenchRole.{sentBy}
+use Rattle.rules.specs.BenchBlock.{benchBlock}
 
 abbrev pub tallies : ℕ → ℕ → ℕ → ℕ → Tallies
 tallies granted overridden handed released =
