@@ -3,7 +3,9 @@
 ghost use mathlib.Core.Path.{_≡_};
 ghost use Prim.Native.Nat.{_≤_};
 ghost use Rattle.rules.specs.Description.{ours};
-ghost use Rattle.board.specs.Memory.{boardIn, boardBytes};
+ghost use Rattle.rules.specs.Message.{largestAnswer};
+ghost use Rattle.board.specs.Memory.{boardBytes};
+ghost use Rattle.record.specs.Memory.{memories};
 ghost use Rattle.call_message.specs.Calls.{lending};
 ghost use Rattle.pomrozek.specs.Exported.{ExportedBlock, ExportedBoard, ExportedList, ExportedMessage};
 use access::AccessMemory;
@@ -33,16 +35,16 @@ pub extern "C" fn pomrozek_board(
     access: &AccessMemory,
     description: &[u8],
 ) -> u32
-    ensures { λ r. ⌜ ExportedBoard (now (board .entry)) (now (access .entry)) (now (description .entry)) (now (board .exit)) r ⌝ }
-{
+    ensures { λ r. ⌜ ExportedBoard (now (board .entry)) (now (access .entry)) (now (description .entry))
+      (now (board .exit)) r ⌝ }{
     verdict_number(offer_board(board, access, description))
 }
 
 // Offers an access list and gives the verdict's number: 0 accepted, k for Ak.
 #[no_mangle]
 pub extern "C" fn pomrozek_list(board: &BoardMemory, access: &mut AccessMemory, list: &[u8]) -> u32
-    ensures { λ r. ⌜ ExportedList (boardIn (now (board .entry))) (now (access .entry)) (now (list .entry)) (now (access .exit)) r ⌝ }
-{
+    ensures { λ r. ⌜ ExportedList (now (board .entry)) (now (access .entry)) (now (list .entry))
+      (now (access .exit)) r ⌝ }{
     verdict_number(offer_list(board, access, list))
 }
 
@@ -57,8 +59,8 @@ pub extern "C" fn pomrozek_block(
     block: &[u8],
     found: &mut [u32; 1],
 ) -> u32
-    ensures { λ r. ⌜ ExportedBlock (boardIn (now (board .entry))) (now (access .entry)) major minor (now (block .entry)) (now (access .exit)) (now (found .exit)) r ⌝ }
-{
+    ensures { λ r. ⌜ ExportedBlock (now (board .entry)) (now (access .entry)) major minor
+      (now (block .entry)) (now (access .exit)) (now (found .exit)) r ⌝ }{
     let report = offer_block(board, access, major, minor, block);
     let words = &mut found[..];
     words[0] = report.host as u32;
@@ -66,9 +68,9 @@ pub extern "C" fn pomrozek_block(
     verdict_number(verdict)
 }
 
-// The number of bytes written, which is at most 29, as the width of the report's words.
+// The number of bytes written as the width of the report's words; no answer is longer than the largest.
 fn narrow(written: usize) -> u32
-    requires { ⌜ written ≤ 29 ⌝ }
+    requires { ⌜ written ≤ largestAnswer ⌝ }
     ensures { λ r. ⌜ r ≡ written ⌝ }
 {
     written as u32
@@ -87,8 +89,10 @@ pub extern "C" fn pomrozek_message(
     answer: &mut [u8],
     report: &mut [u32; 4],
 ) -> u32
-    ensures { λ r. ⌜ ExportedMessage (boardIn (now (board .entry))) (now (access .entry)) (now (records .entry)) (lending channel (now (request .entry)) (now (status .entry)) (now (answer .entry))) (now (records .exit)) (now (answer .exit)) (now (report .exit)) r ⌝ }
-{
+    ensures { λ r. ⌜ ExportedMessage
+      (memories (now (board .entry)) (now (access .entry)) (now (records .entry)))
+      (lending channel (now (request .entry)) (now (status .entry)) (now (answer .entry)))
+      (now (records .exit)) (now (answer .exit)) (now (report .exit)) r ⌝ }{
     let told = message(board, access, records, channel, request, status, answer);
     let words = &mut report[..];
     words[0] = told.checks;

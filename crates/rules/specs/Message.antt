@@ -101,6 +101,12 @@ waitIn m =
       anyclear = u32At m 25;
     }
 
+-- ---- the answer
+
+-- the bytes of the largest answer, that to get status
+abbrev pub largestAnswer : ℕ
+largestAnswer = 29
+
 -- ---- what a message call gets
 
 -- the sender's channel host, the message, the lent status words, the first being the status now, and the "answer room", 01's term: the

@@ -15,7 +15,7 @@ use Rattle.rules.specs.Table.{Line, _gives_, firstOf}
 use Rattle.rules.specs.Board.{Board, activeHost, onBoard, classOf, controlWord}
 use Rattle.rules.specs.AccessList.{Entry}
 use Rattle.rules.specs.Role.{roleOf, isMaster, permits, permitted}
-use Rattle.rules.specs.Message.{Query, hostOf, isKind, kindIn, sizeOf, subjectOf, newHostOf, vectorLowOf, configSetOf, configClearOf, controlSetOf, controlClearOf, waitIn}
+use Rattle.rules.specs.Message.{Query, largestAnswer, hostOf, isKind, kindIn, sizeOf, subjectOf, newHostOf, vectorLowOf, configSetOf, configClearOf, controlSetOf, controlClearOf, waitIn}
 use Rattle.rules.specs.Flags.{flagsGood, configGood}
 use Rattle.rules.specs.Wait.{waitGood, ranOut}
 
@@ -30,7 +30,7 @@ pub record View : Type 0 where
 
 -- R1
 abbrev pub roomTooSmall : Query → Bool
-roomTooSmall q = ltb (q .room) 29
+roomTooSmall q = ltb (q .room) largestAnswer
 
 -- R2
 abbrev pub lengthWrong : Query → Bool

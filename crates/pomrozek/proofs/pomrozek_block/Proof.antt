@@ -1,11 +1,10 @@
 -- `pomrozek_block` meets its contract: the block call, with the verdict's number and the host as a word.
 use Prim.Native.Nat.{ℕ}
-use mathlib.Core.Path.{_≡_, refl, ap, _∙_}
+use mathlib.Core.Path.{_≡_, refl}
 use mathlib.Core.List.{List, [], _∷_}
 use native.Mathlib.Omega.{arith}
 use lib.ListN.{length, set}
 use denote.Ref.{now}
-use Rattle.rules.specs.Verdict.{verdictNumber}
 use borrow.Author.Needs.{needs}
 use Rattle.pomrozek.proofs.pomrozek_block.Statement.{statement}
 use Rattle.pomrozek.proofs.pomrozek_block.Tie as tie
@@ -18,12 +17,12 @@ one (x ∷ y ∷ l) a n = absurd (let z : _≡_ {A = ℕ} (length (x ∷ y ∷ l
 
 returns : tie.Need-returns
 returns c =
-    let a = c .before .before .before .before .before .before .args in
-    let told = c .before .before .before .offer-block .ensures in
+    let call = c .before .before .before .offer-block in
     record {
-      verdict = c .verdict-number .ensures ∙ ap verdictNumber (told .verdict);
-      host = one (now (a .found)) _ (search needs) ∙ ap (λ (h : ℕ). h ∷ []) (told .host);
-      memory = told .memory;
+      told = call .result;
+      meets = call .ensures;
+      number = c .verdict-number .ensures;
+      host = one (now (c .before .before .before .before .before .before .args .found)) _ (search needs);
     }
 
 pub pomrozek-block-spec : {M : Type 1} → statement M

@@ -1,14 +1,13 @@
 -- `pomrozek_message` meets its contract: the message call, with the outcome's number and the rest of the report as words.
 use Prim.Native.Nat.{ℕ, _≤_}
-use mathlib.Core.Path.{_≡_, refl, ap, ap₂, _∙_, subst⁻¹}
+use mathlib.Core.Path.{_≡_, refl, ap₂, _∙_, subst⁻¹}
 use mathlib.Core.List.{List, [], _∷_}
 use native.Mathlib.Omega.{arith}
 use lib.ListN.{length, set, length-set}
 use denote.Ref.{now}
 use Rattle.rules.specs.declared.Report.{Report}
-use Rattle.rules.specs.Outcome.{outcomeNumber}
+use Rattle.rules.specs.Message.{largestAnswer}
 use Rattle.call_message.proofs.EachCall.{written-short}
-use Rattle.pomrozek.specs.Exported.{reportWords}
 use borrow.Author.Needs.{needs}
 use Rattle.pomrozek.proofs.pomrozek_message.Statement.{statement}
 use Rattle.pomrozek.proofs.pomrozek_message.Tie as tie
@@ -27,7 +26,7 @@ slice-write-words-2 c = simp length-set (omega arith)
 
 narrow-requires : tie.Need-narrow-requires
 narrow-requires c κs =
-    subst⁻¹ (λ (r : Report). r .written ≤ 29) (c .before .before .before .message .ensures .report) (written-short _ _)
+    subst⁻¹ (λ (r : Report). r .written ≤ largestAnswer) (c .before .before .before .message .ensures .report) (written-short _ _)
 
 slice-write-words-3 : tie.Need-slice-write-words-3
 slice-write-words-3 c = simp length-set (omega arith)
@@ -37,17 +36,15 @@ slice-write-words-4 c = simp length-set (omega arith)
 
 returns : tie.Need-returns
 returns c =
+    let call = c .before .before .before .before .before .before .message in
     let a = c .before .before .before .before .before .before .before .before .before .before .before .before .args in
-    let m = c .before .before .before .before .before .before .message in
-    let told = m .ensures in
     record {
-      outcome = c .outcome-number .ensures ∙ ap (λ (r : Report). outcomeNumber (r .outcome)) (told .report);
-      report =
-          ap₂ (λ (n k : ℕ). set (set (set (set (now (a .report)) 0 (m .result .checks)) 1 (m .result .micros)) 2 n) 3 k) (c .before .before .narrow .ensures) (c .before .role-number .ensures)
-          ∙ four (now (a .report)) _ _ _ _ (search needs)
-          ∙ ap reportWords (told .report);
-      records = told .records;
-      buffer = told .buffer;
+      told = call .result;
+      meets = call .ensures;
+      number = c .outcome-number .ensures;
+      words =
+          ap₂ (λ (n k : ℕ). set (set (set (set (now (a .report)) 0 (call .result .checks)) 1 (call .result .micros)) 2 n) 3 k) (c .before .before .narrow .ensures) (c .before .role-number .ensures)
+          ∙ four (now (a .report)) _ _ _ _ (search needs);
     }
 
 pub pomrozek-message-spec : {M : Type 1} → statement M
