@@ -1,5 +1,5 @@
 # `make demo` proves and builds the replay program and replays the worked sessions; `make test` passes everything.
-.PHONY: demo test quick measure
+.PHONY: demo test quick measure index
 
 demo:
 	@scripts/in-memory scripts/demo
@@ -15,3 +15,7 @@ quick:
 # Instructions per message and time of a million messages, beside the second implementation.
 measure:
 	@scripts/measure
+
+# Every public function and every must-fail edit, listed from the sources in target/index.
+index:
+	@scripts/index
