@@ -1,4 +1,5 @@
 -- What the proofs of this crate and of those above it share.
--- What the proofs of this crate share.
+pub mod Extents
 pub mod Read
-pub mod Cleared
+pub mod Stores
+pub mod EmptyBoard

@@ -6,14 +6,15 @@ use mathlib.Core.Bool.{Bool, false, not, _||_}
 use mathlib.Core.List.{List, _++_}
 use native.Mathlib.Nat.{zero-add}
 use native.Mathlib.Omega.{arith}
-use lib.ListN.{length, getD, length-append, List·getD-append}
+use lib.ListN.{length, getD, List·getD-append}
 use lib.Seq.{getD-append-add}
 use lib.Dec.{eqb}
 use Rattle.rules.specs.Table.{tableOf}
 use Rattle.rules.specs.Board.{Board, rows, boardHost, rowOf, classAt, homeAt}
-use Rattle.rules.specs.Description.{Description, markIn, rowIn, classIn, homeIn, boardOf}
-use Rattle.rules.proofs.Tables.{table-length, table-here, table-past, table-is}
-use Rattle.board.specs.Memory.{boardIn, boardBytes}
+use Rattle.rules.specs.Description.{Description, boardOf}
+use Rattle.rules.proofs.Tables.{table-here, table-past, table-is}
+use Rattle.board.specs.Memory.{placesPlace, classesPlace, homesPlace, boardIn, boardBytes}
+use Rattle.board.proofs.Extents.{Sized, board-sized, size-two, size-three}
 
 module _ (m : List ℕ) where
   -- a host but 0, by its byte, and one above 255
@@ -27,25 +28,25 @@ module _ (m : List ℕ) where
   unfolding boardHost boardIn
   host-none h past some = rw (some, table-past (λ (k : ℕ). getD m k 0) 0 256 0 h past)
 
-  pub row-read : (p : ℕ) → p < 256 → getD m (256 + p) 0 ≡ rowOf (boardIn m) p
+  pub row-read : (p : ℕ) → p < 256 → getD m (placesPlace + p) 0 ≡ rowOf (boardIn m) p
   unfolding rowOf boardIn
-  row-read p byte = sym (table-here (λ (k : ℕ). getD m (256 + k) 0) rows 256 p byte)
+  row-read p byte = sym (table-here (λ (k : ℕ). getD m (placesPlace + k) 0) rows 256 p byte)
 
-  pub class-read : (row : ℕ) → row < rows → getD m (512 + row) 0 % 2 ≡ classAt (boardIn m) row
+  pub class-read : (row : ℕ) → row < rows → getD m (classesPlace + row) 0 % 2 ≡ classAt (boardIn m) row
   unfolding classAt boardIn
-  class-read row h = ap (λ (n : ℕ). n % 2) (sym (table-here (λ (k : ℕ). getD m (512 + k) 0) 0 rows row h))
+  class-read row h = ap (λ (n : ℕ). n % 2) (sym (table-here (λ (k : ℕ). getD m (classesPlace + k) 0) 0 rows row h))
 
   pub class-past : (row : ℕ) → rows ≤ row → 0 ≡ classAt (boardIn m) row
   unfolding classAt boardIn
-  class-past row h = ap (λ (n : ℕ). n % 2) (sym (table-past (λ (k : ℕ). getD m (512 + k) 0) 0 rows 0 row h))
+  class-past row h = ap (λ (n : ℕ). n % 2) (sym (table-past (λ (k : ℕ). getD m (classesPlace + k) 0) 0 rows 0 row h))
 
-  pub home-read : (row : ℕ) → row < rows → getD m (544 + row) 0 % 32 ≡ homeAt (boardIn m) row
+  pub home-read : (row : ℕ) → row < rows → getD m (homesPlace + row) 0 % rows ≡ homeAt (boardIn m) row
   unfolding homeAt boardIn
-  home-read row h = ap (λ (n : ℕ). n % 32) (sym (table-here (λ (k : ℕ). getD m (544 + k) 0) 0 rows row h))
+  home-read row h = ap (λ (n : ℕ). n % rows) (sym (table-here (λ (k : ℕ). getD m (homesPlace + k) 0) 0 rows row h))
 
   pub home-past : (row : ℕ) → rows ≤ row → 0 ≡ homeAt (boardIn m) row
   unfolding homeAt boardIn
-  home-past row h = ap (λ (n : ℕ). n % 32) (sym (table-past (λ (k : ℕ). getD m (544 + k) 0) 0 rows 0 row h))
+  home-past row h = ap (λ (n : ℕ). n % rows) (sym (table-past (λ (k : ℕ). getD m (homesPlace + k) 0) 0 rows 0 row h))
 
 -- ---- a board's bytes read back
 
@@ -53,33 +54,25 @@ module _ (m : List ℕ) where
 append-past : (xs ys : List ℕ) (n k : ℕ) → length xs ≡ n → getD (xs ++ ys) (n + k) 0 ≡ getD ys k 0
 append-past xs ys n k size = ap (λ (i : ℕ). getD (xs ++ ys) (i + k) 0) (sym size) ∙ getD-append-add xs ys k 0
 
-module _ (b : Board) (size-hosts : length (b .hosts) ≡ 256) (size-places : length (b .places) ≡ 256)
-    (size-classes : length (b .classes) ≡ rows) (size-homes : length (b .homes) ≡ rows) where
-  abbrev first : List ℕ
-  first = b .hosts
+module _ (b : Board) (s : Sized b) where
+  two : length (b .hosts ++ b .places) ≡ classesPlace
+  two = size-two (b .hosts) (b .places) (s .hosts) (s .places)
 
-  abbrev second : List ℕ
-  second = b .hosts ++ b .places
-
-  abbrev third : List ℕ
-  third = b .hosts ++ b .places ++ b .classes
-
-  size-second : length second ≡ 512
-  size-second = length-append (b .hosts) (b .places) ∙ (omega arith)
-
-  size-third : length third ≡ 544
-  size-third = length-append second (b .classes) ∙ (let s = size-second in omega arith)
+  three : length (b .hosts ++ b .places ++ b .classes) ≡ homesPlace
+  three = size-three (b .hosts) (b .places) (b .classes) (s .hosts) (s .places) (s .classes)
 
   -- places in front of the tables behind
-  in-third : (k : ℕ) → k < 544 → getD (boardBytes b) k 0 ≡ getD third k 0
+  in-three : (k : ℕ) → k < homesPlace → getD (boardBytes b) k 0 ≡ getD (b .hosts ++ b .places ++ b .classes) k 0
   unfolding boardBytes
-  in-third k h = List·getD-append third (b .homes) 0 k (let s = size-third in omega arith)
+  in-three k h = List·getD-append (b .hosts ++ b .places ++ b .classes) (b .homes) 0 k (omega (arith, three))
 
-  in-second : (k : ℕ) → k < 512 → getD (boardBytes b) k 0 ≡ getD second k 0
-  in-second k h = in-third k (omega arith) ∙ List·getD-append second (b .classes) 0 k (let s = size-second in omega arith)
+  in-two : (k : ℕ) → k < classesPlace → getD (boardBytes b) k 0 ≡ getD (b .hosts ++ b .places) k 0
+  in-two k h = in-three k (omega arith) ∙ List·getD-append (b .hosts ++ b .places) (b .classes) 0 k (omega (arith, two))
 
-  in-first : (k : ℕ) → k < 256 → getD (boardBytes b) k 0 ≡ getD first k 0
-  in-first k h = in-second k (omega arith) ∙ List·getD-append first (b .places) 0 k (omega arith)
+  -- a table that is read back, place by place
+  table-back : (xs : List ℕ) (n : ℕ) (f : ℕ → ℕ) → length xs ≡ n → ((k : ℕ) → k < n → f k ≡ getD xs k 0) → tableOf f 0 n ≡ xs
+  table-back xs n f size read =
+      ap (tableOf f 0) (sym size) ∙ table-is f 0 xs 0 (λ k h. ap f (zero-add k) ∙ read k (omega arith))
 
   read-back : boardIn (boardBytes b) ≡ b
   unfolding boardIn boardBytes
@@ -87,33 +80,19 @@ module _ (b : Board) (size-hosts : length (b .hosts) ≡ 256) (size-places : len
       λ t.
       record {
         hosts =
-            (ap (tableOf _ 0) (sym size-hosts)
-            ∙ table-is (λ (h : ℕ). getD (boardBytes b) h 0) 0 (b .hosts) 0
-            (λ k h. ap (λ (i : ℕ). getD (boardBytes b) i 0) (zero-add k) ∙ in-first k (omega arith))) t;
+            table-back (b .hosts) 256 (λ (h : ℕ). getD (boardBytes b) h 0) (s .hosts)
+            (λ k h. in-two k (omega arith) ∙ List·getD-append (b .hosts) (b .places) 0 k (omega (arith, s .hosts))) t;
         places =
-            (ap (tableOf _ 0) (sym size-places)
-            ∙ table-is (λ (p : ℕ). getD (boardBytes b) (256 + p) 0) 0 (b .places) 0
-            (λ k h.
-            ap (λ (i : ℕ). getD (boardBytes b) (256 + i) 0) (zero-add k)
-            ∙ in-second (256 + k) (omega arith)
-            ∙ append-past (b .hosts) (b .places) 256 k size-hosts)) t;
+            table-back (b .places) 256 (λ (p : ℕ). getD (boardBytes b) (placesPlace + p) 0) (s .places)
+            (λ k h. in-two (placesPlace + k) (omega arith) ∙ append-past (b .hosts) (b .places) placesPlace k (s .hosts)) t;
         classes =
-            (ap (tableOf _ 0) (sym size-classes)
-            ∙ table-is (λ (row : ℕ). getD (boardBytes b) (512 + row) 0) 0 (b .classes) 0
-            (λ k h.
-            ap (λ (i : ℕ). getD (boardBytes b) (512 + i) 0) (zero-add k)
-            ∙ in-third (512 + k) (omega arith)
-            ∙ append-past second (b .classes) 512 k size-second)) t;
+            table-back (b .classes) rows (λ (row : ℕ). getD (boardBytes b) (classesPlace + row) 0) (s .classes)
+            (λ k h. in-three (classesPlace + k) (omega arith) ∙ append-past (b .hosts ++ b .places) (b .classes) classesPlace k two) t;
         homes =
-            (ap (tableOf _ 0) (sym size-homes)
-            ∙ table-is (λ (row : ℕ). getD (boardBytes b) (544 + row) 0) 0 (b .homes) 0
-            (λ k h.
-            ap (λ (i : ℕ). getD (boardBytes b) (544 + i) 0) (zero-add k)
-            ∙ append-past third (b .homes) 544 k size-third)) t;
+            table-back (b .homes) rows (λ (row : ℕ). getD (boardBytes b) (homesPlace + row) 0) (s .homes)
+            (λ k h. append-past (b .hosts ++ b .places ++ b .classes) (b .homes) homesPlace k three) t;
       }
 
 -- so those of a description's board do
 pub board-back : (d : Description) → boardIn (boardBytes (boardOf d)) ≡ boardOf d
-unfolding boardOf
-board-back d =
-    read-back (boardOf d) (table-length (markIn d) 256 0) (table-length (rowIn d) 256 0) (table-length (classIn d) rows 0) (table-length (homeIn d) rows 0)
+board-back d = read-back (boardOf d) (board-sized d)

@@ -1,4 +1,3 @@
--- What the lent board memory holds.
--- The bytes of the cleared board memory.
+-- What the lent board memory holds; and its bytes where nothing is listed.
 pub mod Memory
-pub mod Cleared
+pub mod EmptyBoard

@@ -1,9 +1,16 @@
--- The board memory, 576 bytes: the tables of rules/specs/Board.antt one behind the other, read as they stand there. Any content is a board.
+-- The board memory: the tables of rules/specs/Board.antt one behind the other, read and written as they stand there. Any content is a
+-- board.
 use Prim.Native.Nat.{ℕ, _+_}
+use mathlib.Core.Bool.{cond}
 use mathlib.Core.List.{List, _++_}
-use lib.ListN.{getD}
+use lib.ListN.{getD, set}
+use lib.Dec.{ltb}
 use Rattle.rules.specs.Table.{tableOf}
 use Rattle.rules.specs.Board.{Board, rows}
+
+-- how many bytes it has
+abbrev pub boardSize : ℕ
+boardSize = 576
 
 -- where the tables begin; the hosts' is the first
 abbrev pub placesPlace : ℕ
@@ -28,3 +35,12 @@ boardIn m =
 -- the bytes that a board has in the memory
 unfoldable pub boardBytes : Board → List ℕ
 boardBytes b = b .hosts ++ b .places ++ b .classes ++ b .homes
+
+-- the memory with the mark of host h
+abbrev pub withHostMark : List ℕ → ℕ → ℕ → List ℕ
+withHostMark m h mark = set m h mark
+
+-- the memory with processor p at a row, and the row's class and home; a row that is not there is left alone
+unfoldable pub withProcessorAt : List ℕ → ℕ → ℕ → ℕ → ℕ → List ℕ
+withProcessorAt m p row class home =
+    cond (ltb row rows) (set (set (set m (placesPlace + p) row) (classesPlace + row) class) (homesPlace + row) home) m

@@ -1,12 +1,14 @@
 // The board in force, read out of the lent board memory: its hosts, its processors with their rows,
 // classes and homes. Each function gives what the definition of the same name in rules/specs/Board.antt
 // gives, for any content of the memory and any number.
-mod clearing;
+mod store;
 
-pub use clearing::clear;
+pub use store::clear;
+pub use store::store_host;
+pub use store::store_processor;
 ghost use Prim.Native.Nat.{_<_};
 ghost use mathlib.Core.Path.{_≡_};
-ghost use Rattle.rules.specs.Board.{boardHost, activeHost, rowOf, classAt, homeAt};
+ghost use Rattle.rules.specs.Board.{rows, boardHost, activeHost, rowOf, classAt, homeAt};
 ghost use Rattle.board.specs.Memory.{boardIn};
 
 // The board memory: tables of the hosts, of the processors' rows, and by row of classes and homes.
@@ -15,11 +17,11 @@ pub const BOARD_BYTES: usize = 576;
 pub type BoardMemory = [u8; BOARD_BYTES];
 
 // Where the tables begin; that of the hosts is the first.
-pub const PLACES: usize = 256;
+const PLACES: usize = 256;
 
-pub const CLASSES: usize = 512;
+const CLASSES: usize = 512;
 
-pub const HOMES: usize = 544;
+const HOMES: usize = 544;
 
 // How many rows a board has: one for each of at most 32 processors.
 pub const ROWS: u8 = 32;
@@ -32,8 +34,9 @@ pub fn is_host(board: &BoardMemory, host: u16) -> bool
     if host == 0 {
         return true;
     }
-    if host < 256 {
-        return board[host as usize] != 0;
+    let place = host as usize;
+    if place < PLACES {
+        return board[place] != 0;
     }
     false
 }
@@ -65,7 +68,7 @@ pub fn class_at(board: &BoardMemory, row: u8) -> usize
 // The row where the control word of the processor at `row` is kept. The processors of an ARMv8 cluster
 // have one home.
 pub fn home_at(board: &BoardMemory, row: u8) -> u8
-    ensures { λ r. ⌜ (r ≡ homeAt (boardIn (now (board .entry))) row) × (r < 32) ⌝ }
+    ensures { λ r. ⌜ (r ≡ homeAt (boardIn (now (board .entry))) row) × (r < rows) ⌝ }
 {
     if row < ROWS {
         return board[HOMES + row as usize] % ROWS;

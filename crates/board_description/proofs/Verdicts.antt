@@ -2,70 +2,44 @@
 use Prim.Native.Nat.{ℕ, _+_, _≤_, _<_}
 use native.Mathlib.Omega.{arith}
 use mathlib.Core.Path.{_≡_, refl, sym, ap, subst, subst⁻¹, _∙_}
-use mathlib.Core.Bool.{Bool, true, false, cond}
+use mathlib.Core.Bool.{true, false}
 use mathlib.Core.List.{List, [], _∷_}
 use lib.ListN.{length, drop, length-drop}
 use lib.Dec.{eqb, ltb}
 use Rattle.rules.specs.declared.Item.{Item}
 use Rattle.rules.specs.declared.Verdict.{Verdict}
-use Rattle.rules.specs.declared.Verdict.the-variants.{Accepted, D1, D2, D3, D4, D5, D6}
+use Rattle.rules.specs.declared.Verdict.the-variants.{Accepted}
 use Rattle.rules.specs.Table.{firstOf}
 use Rattle.rules.specs.Verdict.{accepted}
-use Rattle.rules.specs.Description.{Description, itemIn, fieldSize, itemsIn, repeats, otherClass, isFull, itemTable, itemsTable, descriptionTable, boardVerdict, withItems, descriptionIn}
-use Rattle.rules.proofs.Tests.{firstOf-append, cleared, passed}
+use Rattle.rules.specs.Description.{Description, itemIn, fieldSize, itemsIn, repeats, isFull, itemTable, itemsTable, descriptionTable, boardVerdict, withItems, descriptionIn}
+use Rattle.rules.proofs.Tests.{firstOf-append, cleared, passed, noneGood, none-falls, none-stops}
+use Rattle.rules.proofs.Verdicts.{not-accepted}
 use Rattle.board_description.specs.Cursor.{cursorAt, itemNo, listedBefore}
 use Rattle.board_description.proofs.Fields.{field-within, field-some}
 use Rattle.board_description.proofs.Cursors.{items-at, items-end, cursor-next, listed-next, cursor-item, cursor-step}
 
 -- ---- one item
 
--- D1 to D6 of any six tests, and what is left to decide
-abbrev sixOf : Bool → Bool → Bool → Bool → Bool → Bool → Verdict → Verdict
-sixOf a b c d e f rest = cond a D1 (cond b D2 (cond c D3 (cond d D4 (cond e D5 (cond f D6 rest)))))
-
--- a fault comes before what is left
-six-bad : (a b c d e f : Bool) (rest : Verdict) → (sixOf a b c d e f Accepted ≡ Accepted → ⊥)
-    → sixOf a b c d e f rest ≡ sixOf a b c d e f Accepted
-six-bad true b c d e f rest bad = refl
-six-bad false true c d e f rest bad = refl
-six-bad false false true d e f rest bad = refl
-six-bad false false false true e f rest bad = refl
-six-bad false false false false true f rest bad = refl
-six-bad false false false false false true rest bad = refl
-six-bad false false false false false false rest bad = absurd (bad refl)
-
--- without one what is left decides
-six-good : (a b c d e f : Bool) (rest : Verdict) → sixOf a b c d e f Accepted ≡ Accepted → sixOf a b c d e f rest ≡ rest
-six-good true b c d e f rest good = cc
-six-good false true c d e f rest good = cc
-six-good false false true d e f rest good = cc
-six-good false false false true e f rest good = cc
-six-good false false false false true f rest good = cc
-six-good false false false false false true rest good = cc
-six-good false false false false false false rest good = refl
-
--- where all is accepted in the end, there is none
-six-none : (a b c d e f : Bool) (rest : Verdict) → sixOf a b c d e f rest ≡ Accepted → sixOf a b c d e f Accepted ≡ Accepted
-six-none true b c d e f rest good = good
-six-none false true c d e f rest good = good
-six-none false false true d e f rest good = good
-six-none false false false true e f rest good = good
-six-none false false false false true f rest good = good
-six-none false false false false false true rest good = good
-six-none false false false false false false rest good = refl
+-- no line of an item's table accepts
+item-faults : (d : Description) (x : Item) → noneGood accepted (itemTable d x) ≡ true
+unfolding itemTable noneGood accepted
+item-faults d x = refl
 
 module _ (d : Description) (x : Item) (rest : Verdict) where
+  -- a fault comes before what is left
   item-bad : (firstOf Accepted (itemTable d x) ≡ Accepted → ⊥) → firstOf rest (itemTable d x) ≡ firstOf Accepted (itemTable d x)
-  unfolding firstOf itemTable
-  item-bad bad = six-bad (eqb (x .tag) 0) (eqb (x .number) 0) (repeats d x) (ltb 1 (x .mark)) (otherClass d x) (isFull d x) rest bad
+  unfolding accepted
+  item-bad bad = none-stops accepted Accepted rest (itemTable d x) refl (not-accepted _ bad)
 
+  -- without one what is left decides
   item-good : firstOf Accepted (itemTable d x) ≡ Accepted → firstOf rest (itemTable d x) ≡ rest
-  unfolding firstOf itemTable
-  item-good good = six-good (eqb (x .tag) 0) (eqb (x .number) 0) (repeats d x) (ltb 1 (x .mark)) (otherClass d x) (isFull d x) rest good
+  unfolding accepted
+  item-good good = none-falls accepted Accepted rest (itemTable d x) (item-faults d x) (ap accepted good)
 
+  -- where all is accepted in the end, there is none
   item-none : firstOf rest (itemTable d x) ≡ Accepted → firstOf Accepted (itemTable d x) ≡ Accepted
-  unfolding firstOf itemTable
-  item-none good = six-none (eqb (x .tag) 0) (eqb (x .number) 0) (repeats d x) (ltb 1 (x .mark)) (otherClass d x) (isFull d x) rest good
+  unfolding accepted
+  item-none good = none-falls accepted rest Accepted (itemTable d x) (item-faults d x) (ap accepted good)
 
 -- an item without a fault: what the lines of the table do not say of it
 pub record Clear (d : Description) (x : Item) : Type 0 where
@@ -113,6 +87,10 @@ unfolding cursorAt boardVerdict descriptionTable firstOf verdictFrom listedFrom 
 reached-start bytes =
     record { cursor = refl; within = omega arith; counted = omega arith; verdict = refl; description = refl }
 
+-- the items before lie within the bytes
+pub reached-within : {bytes : List ℕ} {at k : ℕ} → Reached bytes at k → cursorAt bytes k ≤ length bytes
+reached-within r = omega (arith, r .cursor, r .within)
+
 module _ (bytes : List ℕ) (k : ℕ) (inside : cursorAt bytes k < length bytes) where
   -- item k and those behind it
   split : itemsIn (drop (cursorAt bytes k) bytes) ≡ itemNo bytes k ∷ itemsIn (drop (cursorAt bytes (k + 1)) bytes)
@@ -136,7 +114,7 @@ module _ (bytes : List ℕ) (k : ℕ) (inside : cursorAt bytes k < length bytes)
       ∙ ap (λ (d : Description). withItems d (itemsIn (drop (cursorAt bytes (k + 1)) bytes))) (sym (listed-next bytes k))
 
 -- a turn of the loop: what it has read is the item at the cursor
-module _ (bytes : List ℕ) (at k : ℕ) {x : Item} (r : Reached bytes at k) (inside : at < length bytes) (is : x ≡ itemIn (drop at bytes)) where
+module _ {bytes : List ℕ} {at k : ℕ} {x : Item} (r : Reached bytes at k) (inside : at < length bytes) (is : x ≡ itemIn (drop at bytes)) where
   there : cursorAt bytes k < length bytes
   there = subst (λ (n : ℕ). n < length bytes) (r .cursor) inside
 
@@ -181,7 +159,7 @@ module _ (bytes : List ℕ) (at k : ℕ) {x : Item} (r : Reached bytes at k) (in
       ∙ item-none (listedBefore bytes k) (itemNo bytes k) _ (sym (verdict-next bytes k there) ∙ sym (r .verdict) ∙ good)
 
 -- behind the last item nothing is left
-module _ (bytes : List ℕ) (at k : ℕ) (r : Reached bytes at k) (past : length bytes ≤ at) where
+module _ {bytes : List ℕ} {at k : ℕ} (r : Reached bytes at k) (past : length bytes ≤ at) where
   none-left : itemsIn (drop (cursorAt bytes k) bytes) ≡ []
   none-left = items-end bytes (cursorAt bytes k) (subst (λ (n : ℕ). length bytes ≤ n) (r .cursor) past)
 

@@ -1,6 +1,3 @@
--- What the items before an item say of it.
--- The faults of an item.
--- Where the items of a description begin, and what they list.
-pub mod Compared
-pub mod Faults
+-- Where the items of a description begin, and what they list; and what the items before an item say of it.
 pub mod Cursor
+pub mod EarlierItems

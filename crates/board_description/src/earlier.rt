@@ -1,13 +1,22 @@
 // What the items of a board description that come before an item say of it: they are walked again, and
 // compared with it one at a time.
 ghost use mathlib.Core.Path.{_≡_};
-ghost use Prim.Native.Nat.{_+_, _<_, _^_};
-ghost use Rattle.board_description.specs.Compared.{sameKind, mixesClasses, beforeIn, noted, listedWithin};
-use crate::fault::Before;
+ghost use Prim.Native.Nat.{_+_, _≤_, _<_, _^_};
+ghost use lib.ListN.{length};
+ghost use Rattle.board_description.specs.Cursor.{cursorAt, listedBefore};
+ghost use Rattle.board_description.specs.EarlierItems.{sameKind, mixesClasses, beforeIn, noted};
 use crate::item::HOST;
 use crate::item::field_size;
 use crate::item::item_at;
 use rules::Item;
+
+// What the items before an item say of it: whether one of its kind has its number, whether a
+// processor of another class has its cluster, and how many are of its kind.
+pub(crate) struct Before {
+    pub repeated: bool,
+    pub mixed: bool,
+    pub same: usize,
+}
 
 // Whether two items are of one kind, hosts or processors.
 fn same_kind(item: Item, earlier: Item) -> bool
@@ -49,9 +58,10 @@ fn note(before: Before, item: Item, earlier: Item) -> Before
     }
 }
 
-// What the first `count` items say of an item, those of them that begin within the description.
-pub fn look_back(description: &[u8], count: usize, item: Item) -> Before
-    ensures { λ r. ⌜ r ≡ beforeIn (listedWithin (now (description .entry)) count) item ⌝ }
+// What the first `count` items of a description, which lie within it, say of an item.
+pub(crate) fn look_back(description: &[u8], count: usize, item: Item) -> Before
+    requires { ⌜ cursorAt (now description) count ≤ length (now description) ⌝ }
+    ensures { λ r. ⌜ r ≡ beforeIn (listedBefore (now (description .entry)) count) item ⌝ }
 {
     let mut before = Before {
         repeated: false,
@@ -61,9 +71,6 @@ pub fn look_back(description: &[u8], count: usize, item: Item) -> Before
     let mut at = 0;
     let mut k = 0;
     while k < count {
-        if description.len() <= at {
-            return before;
-        }
         let earlier = item_at(description, at);
         before = note(before, item, earlier);
         at += field_size(earlier);

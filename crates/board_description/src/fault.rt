@@ -1,26 +1,21 @@
-// The faults of an item of a board description: document 02's D1 to D6, in its order, by what the items
-// before it say of it.
+// The faults of an item of a board description: document 02's D1 to D6, in its order.
 ghost use mathlib.Core.Path.{_≡_};
 ghost use mathlib.Core.Bool.{cond};
+ghost use Prim.Native.Nat.{_≤_};
+ghost use lib.ListN.{length};
+ghost use Rattle.rules.specs.declared.Verdict.the-variants.{Accepted};
+ghost use Rattle.rules.specs.Table.{firstOf};
 ghost use Rattle.rules.specs.Board.{rows, hostLimit};
-ghost use Rattle.rules.specs.Description.{isHost};
-ghost use Rattle.board_description.specs.Faults.{faultOf};
+ghost use Rattle.rules.specs.Description.{isHost, itemTable};
+ghost use Rattle.board_description.specs.Cursor.{cursorAt, listedBefore};
+use crate::earlier::look_back;
 use crate::item::HOST;
+use board::ROWS;
 use rules::Item;
 use rules::Verdict;
 
-// How many hosts there may be, host 0 not counted, and how many processors.
+// How many hosts there may be, host 0 not counted. There may be as many processors as a board has rows.
 const HOST_LIMIT: usize = 64;
-
-const PROCESSOR_LIMIT: usize = 32;
-
-// What the items before an item say of it: whether one of its kind has its number, whether a
-// processor of another class has its cluster, and how many are of its kind.
-pub struct Before {
-    pub repeated: bool,
-    pub mixed: bool,
-    pub same: usize,
-}
 
 // How many of the kind of an item there may be.
 fn limit_of(item: Item) -> usize
@@ -29,13 +24,15 @@ fn limit_of(item: Item) -> usize
     if item.tag == HOST {
         return HOST_LIMIT;
     }
-    PROCESSOR_LIMIT
+    ROWS as usize
 }
 
-// D1 to D6 of an item.
-pub fn fault_of(item: Item, before: Before) -> Verdict
-    ensures { λ r. ⌜ r ≡ faultOf item before ⌝ }
+// D1 to D6 of an item behind the first `count` of a description, which lie within it.
+pub(crate) fn fault_of(description: &[u8], count: usize, item: Item) -> Verdict
+    requires { ⌜ cursorAt (now description) count ≤ length (now description) ⌝ }
+    ensures { λ r. ⌜ r ≡ firstOf Accepted (itemTable (listedBefore (now (description .entry)) count) item) ⌝ }
 {
+    let before = look_back(description, count, item);
     if item.tag == 0 {
         return Verdict::D1;
     }

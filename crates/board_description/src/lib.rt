@@ -9,13 +9,12 @@ pub use item::field_size;
 pub use item::item_at;
 ghost use mathlib.Core.Path.{_≡_};
 ghost use Rattle.rules.specs.Description.{boardVerdict};
-use crate::earlier::look_back;
 use crate::fault::fault_of;
 use rules::Verdict;
 
 // What a description comes to, where `listed` says whether a list or a block was accepted before. The first
 // fault is reported: a field that is not good ends the search, so what is behind it is never read.
-pub fn judge(listed: bool, description: &[u8]) -> Verdict
+pub fn judge_description(listed: bool, description: &[u8]) -> Verdict
     ensures { λ r. ⌜ r ≡ boardVerdict listed (now (description .entry)) ⌝ }
 {
     if listed {
@@ -25,7 +24,7 @@ pub fn judge(listed: bool, description: &[u8]) -> Verdict
     let mut count = 0;
     while at < description.len() {
         let item = item_at(description, at);
-        match fault_of(item, look_back(description, count, item)) {
+        match fault_of(description, count, item) {
             Verdict::Accepted => {}
             fault => return fault,
         }

@@ -1,7 +1,7 @@
 -- Laws of the filled memory: how far the walk has come, a turn of it, and its end; and what an offer leaves.
 use Prim.Native.Nat.{ℕ, _+_, _≤_, _<_}
 use native.Mathlib.Omega.{arith}
-use mathlib.Core.Path.{_≡_, sym, ap, subst, subst⁻¹, _∙_}
+use mathlib.Core.Path.{_≡_, sym, ap, subst⁻¹, _∙_}
 use mathlib.Core.Bool.{Bool, true, false}
 use mathlib.Core.List.{List}
 use mathlib.Core.Logic.{⊎-elim}
@@ -19,8 +19,8 @@ use Rattle.rules.proofs.Verdicts.{not-accepted}
 use Rattle.board.specs.Memory.{boardBytes}
 use Rattle.board_description.specs.Cursor.{listedBefore}
 use Rattle.board_description.proofs.Cursors.{listed-next, cursor-item}
-use Rattle.board_description.proofs.Verdicts.{Clear, item-clear, Reached, reached-start, turn-good, turn-accepted, end-listed}
-use Rattle.board_setup.specs.Filled.{Behind, boardAfter, rowAfter, putItem}
+use Rattle.board_description.proofs.Verdicts.{Clear, item-clear, Reached, reached-start, reached-within, turn-good, turn-accepted, end-listed}
+use Rattle.board_setup.specs.Setup.{Behind, boardAfter, rowAfter, putItem}
 use Rattle.board_setup.proofs.Steps.{put-step, room-found}
 use Rattle.board_setup.proofs.Rows.{row-start, row-next}
 
@@ -37,34 +37,30 @@ filled-start bytes cleared =
     record { reached = reached-start bytes; free = row-start bytes; few = omega arith; memory = cleared }
 
 -- a turn: what it has read is the item at the cursor, of an accepted description
-module _ (bytes m : List ℕ) (at k row : ℕ) {x : Item} (f : Filled bytes m at k row) (inside : at < length bytes)
+module _ {bytes m : List ℕ} {at k row : ℕ} {x : Item} (f : Filled bytes m at k row) (inside : at < length bytes)
     (is : x ≡ itemIn (drop at bytes)) (good : boardVerdict false bytes ≡ Accepted) where
   none : firstOf Accepted (itemTable (listedBefore bytes k) x) ≡ Accepted
-  none = turn-accepted bytes at k (f .reached) inside is good
+  none = turn-accepted (f .reached) inside is good
 
   clear : Clear (listedBefore bytes k) x
   clear = item-clear (listedBefore bytes k) x none
 
+  few-marks : x .mark ≤ 1
+  few-marks = ltb-false 1 (x .mark) (clear .marked)
+
+  room : isHost x ≡ false → row < rows
+  room processor = subst⁻¹ (λ (n : ℕ). n < rows) (f .free) (room-found (listedBefore bytes k) x (clear .room) processor)
+
   -- what the code that puts the item relies on
-  pub fill-behind : Behind bytes k row
-  fill-behind =
-      record {
-        within = subst (λ (n : ℕ). n ≤ length bytes) (f .reached .cursor) (f .reached .within);
-        free = f .free;
-      }
-
-  pub fill-mark : x .mark ≤ 1
-  fill-mark = ltb-false 1 (x .mark) (clear .marked)
-
-  pub fill-room : isHost x ≡ false → row < rows
-  fill-room processor = subst⁻¹ (λ (n : ℕ). n < rows) (f .free) (room-found (listedBefore bytes k) x (clear .room) processor)
+  pub fill-ready : Behind bytes k row × ((x .mark ≤ 1) × (isHost x ≡ false → row < rows))
+  fill-ready = (record { within = reached-within (f .reached); free = f .free }, (few-marks, room))
 
   row-few : rowAfter row x ≤ rows
   unfolding rowAfter
   row-few =
       ⊎-elim
       (λ (t : isHost x ≡ true). subst⁻¹ (λ (n : ℕ). n ≤ rows) (cond-true row (row + 1) t) (f .few))
-      (λ (p : isHost x ≡ false). subst⁻¹ (λ (n : ℕ). n ≤ rows) (cond-false row (row + 1) p) (let h = fill-room p in omega arith))
+      (λ (p : isHost x ≡ false). subst⁻¹ (λ (n : ℕ). n ≤ rows) (cond-false row (row + 1) p) (omega (arith, room p)))
       (decide (isHost x))
 
   pub fill-next : {after : List ℕ} {size next : ℕ} → x .number < 256 → after ≡ putItem m (listedBefore bytes k) x row
@@ -72,36 +68,35 @@ module _ (bytes m : List ℕ) (at k row : ℕ) {x : Item} (f : Filled bytes m at
   fill-next {after} {size} {next} byte put rowed sized =
       let item = cursor-item bytes k (f .reached .cursor) is in
       record {
-        reached = turn-good bytes at k (f .reached) inside is none sized;
+        reached = turn-good (f .reached) inside is none sized;
         free = rowed ∙ row-next bytes k (f .free) item;
         few = subst⁻¹ (λ (n : ℕ). n ≤ rows) rowed row-few;
         memory =
             put
             ∙ ap (λ (l : List ℕ). putItem l (listedBefore bytes k) x row) (f .memory)
-            ∙ put-step (listedBefore bytes k) x row (f .free) byte (clear .new) fill-mark fill-room
+            ∙ put-step (listedBefore bytes k) x row (f .free) byte (clear .new) few-marks room
             ∙ ap (λ (y : Item). boardBytes (boardOf (withItem (listedBefore bytes k) y))) item
             ∙ ap (λ (d : Description). boardBytes (boardOf d)) (sym (listed-next bytes k));
       }
 
 -- at the end the memory has the board that is described
-pub fill-end : (bytes m : List ℕ) (at k row : ℕ) → Filled bytes m at k row → length bytes ≤ at → m ≡ boardBytes (described bytes)
+pub fill-end : {bytes m : List ℕ} {at k row : ℕ} → Filled bytes m at k row → length bytes ≤ at → m ≡ boardBytes (described bytes)
 unfolding described
-fill-end bytes m at k row f past =
-    f .memory ∙ ap (λ (d : Description). boardBytes (boardOf d)) (sym (end-listed bytes at k (f .reached) past))
+fill-end f past = f .memory ∙ ap (λ (d : Description). boardBytes (boardOf d)) (sym (end-listed (f .reached) past))
 
 -- ---- the board call
 
 -- what the code has read is the verdict
-module _ (m bytes : List ℕ) (listed : Bool) {v : Verdict} (judged : v ≡ boardVerdict listed bytes) where
+module _ (listed : Bool) (bytes : List ℕ) {v : Verdict} (judged : v ≡ boardVerdict listed bytes) where
   -- a refused description leaves the memory
-  pub offer-refused : (v ≡ Accepted → ⊥) → m ≡ boardAfter m listed bytes
+  pub offer-refused : {m : List ℕ} → (v ≡ Accepted → ⊥) → m ≡ boardAfter m listed bytes
   unfolding boardAfter
   offer-refused bad = sym (cond-false _ _ (ap accepted (sym judged) ∙ not-accepted v bad))
 
   -- an accepted one puts its board there
-  pub offer-taken : v ≡ Accepted → boardBytes (described bytes) ≡ boardAfter m listed bytes
+  pub offer-taken : (m : List ℕ) → v ≡ Accepted → boardBytes (described bytes) ≡ boardAfter m listed bytes
   unfolding boardAfter accepted
-  offer-taken good = sym (cond-true _ _ (ap accepted (sym judged ∙ good)))
+  offer-taken m good = sym (cond-true _ _ (ap accepted (sym judged ∙ good)))
 
   -- and is accepted before a list
   pub offer-first : v ≡ Accepted → boardVerdict false bytes ≡ Accepted

@@ -1,7 +1,6 @@
--- Laws of lists that get one element more: a search in them, and a look-up; and a store in two lists one behind the other. For any
--- type.
-use Prim.Native.Nat.{ℕ, zero, suc, _+_}
-use native.Mathlib.Nat.{zero-add, suc-add}
+-- Laws of lists that get one element more: a search in them, and a look-up; and of a store in a table. For any type.
+use Prim.Native.Nat.{ℕ, zero, suc}
+use native.Mathlib.Nat.{zero-add}
 use mathlib.Core.Path.{_≡_, refl, sym, ap, _∙_}
 use mathlib.Core.Bool.{Bool, true, false}
 use mathlib.Core.List.{List, [], _∷_, _++_, map}
@@ -47,13 +46,6 @@ module _ {A B : Type 0} (f : A → B) (e : B) where
   getD-before (x ∷ xs) y (suc k) other = getD-before xs y k (λ same. other (ap suc same))
 
 -- ---- a store
-
-pub set-past : {A : Type 0} (xs ys : List A) (n i : ℕ) (v : A) → length xs ≡ n → set (xs ++ ys) (n + i) v ≡ xs ++ set ys i v
-set-past {A = A} xs ys n i v size = ap (λ (m : ℕ). set (xs ++ ys) (m + i) v) (sym size) ∙ go xs
-  where
-    go : (xs : List A) → set (xs ++ ys) (length xs + i) v ≡ xs ++ set ys i v
-    go [] = ap (λ (k : ℕ). set ys k v) (zero-add i)
-    go (x ∷ xs) = ap (λ (k : ℕ). set (x ∷ (xs ++ ys)) k v) (suc-add (length xs) i) ∙ ap (λ (l : List A). x ∷ l) (go xs)
 
 -- a table that another function fills but at one place
 pub table-put : {A : Type 0} (f g : ℕ → A) (x : A) (n j : ℕ) → g j ≡ x → ((k : ℕ) → (k ≡ j → ⊥) → g k ≡ f k)

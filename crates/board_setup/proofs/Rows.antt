@@ -16,8 +16,8 @@ use Rattle.rules.specs.Description.{Processor, Description, nothingListed, isHo
 use Rattle.rules.proofs.Tests.{decide, cond-true, cond-false, and-left, and-right}
 use Rattle.board_description.specs.Cursor.{itemNo, listedBefore}
 use Rattle.board_description.proofs.Cursors.{listed-next}
-use Rattle.board_description.proofs.Noted.{any-last, length-last}
-use Rattle.board_setup.specs.Filled.{sharesWord, rowAfter}
+use Rattle.board_description.proofs.EarlierItems.{any-last, length-last}
+use Rattle.board_setup.specs.Setup.{sharesWord, rowAfter}
 use Rattle.board_setup.proofs.Lists.{place-first}
 use Rattle.board_setup.proofs.Steps.{is-processor, home-here}
 

@@ -9,7 +9,7 @@ use Rattle.rules.proofs.Tests.{cond-true}
 use Rattle.rules.proofs.Descriptions.{ours-taken, ours-described}
 use Rattle.board.specs.Memory.{boardIn, boardBytes}
 use Rattle.board.proofs.Read.{board-back}
-use Rattle.board_setup.specs.Filled.{boardAfter}
+use Rattle.board_setup.specs.Setup.{boardAfter}
 
 -- the description of document 01's board is accepted before a list, so that the memory gets its board
 pub start-taken : (before bytes : List ℕ) {after : List ℕ} → after ≡ boardAfter before false bytes → bytes ≡ ourBytes → after ≡ boardBytes ours

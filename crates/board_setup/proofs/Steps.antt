@@ -5,20 +5,20 @@ use mathlib.Core.Path.{_≡_, refl, sym, ap, _∙_}
 use mathlib.Core.Bool.{Bool, true, false, cond, _||_, or-false}
 use mathlib.Core.List.{List, [], _∷_, _++_, map}
 use mathlib.Core.Logic.{⊎-elim}
-use lib.ListN.{length, getD, set}
+use lib.ListN.{length, getD}
 use lib.Dec.{eqb}
 use borrow.Author.Tests.{eq-eqb, ne-eqb, leb-false}
 use Rattle.rules.specs.declared.Item.{Item}
-use Rattle.rules.specs.Table.{_gives_, firstOf, anyOf, placeOf, tableOf}
+use Rattle.rules.specs.Table.{_gives_, firstOf, anyOf, placeOf}
 use Rattle.rules.specs.Board.{rows}
 use Rattle.rules.specs.Description.{Host, Processor, Description, isHost, numbered, listsHost, listsProcessor, repeats, isFull, withItem, markIn, rowIn, classIn, sharedCluster, sharedIn, homeIn, boardOf, itemProcessor, itemHost}
 use Rattle.rules.proofs.Tests.{decide, clash, or-left, or-right, or-false-left, cond-true, cond-false}
-use Rattle.rules.proofs.Tables.{table-length}
-use Rattle.board.specs.Memory.{boardBytes}
-use Rattle.board_description.proofs.Noted.{any-last}
-use Rattle.board_setup.specs.Filled.{putItem}
+use Rattle.board.specs.Memory.{boardBytes, withHostMark, withProcessorAt}
+use Rattle.board.proofs.Extents.{board-sized}
+use Rattle.board.proofs.Stores.{host-stored, processor-stored}
+use Rattle.board_description.proofs.EarlierItems.{any-last}
+use Rattle.board_setup.specs.Setup.{putItem}
 use Rattle.board_setup.proofs.Lists.{place-kept, place-first, getD-last, getD-before, table-put}
-use Rattle.board_setup.proofs.Stores.{store-host, store-processor}
 
 -- ---- one host more
 
@@ -70,13 +70,12 @@ module _ (d : Description) (x : Item) where
 
   -- the memory of the board with one host more
   host-step : x .number < 256 → listsHost d (x .number) ≡ false → x .mark ≤ 1
-      → set (boardBytes (boardOf d)) (x .number) (1 + x .mark) ≡ boardBytes (boardOf withHost)
-  unfolding boardBytes boardOf rowIn listsProcessor classIn homeIn sharedIn
+      → withHostMark (boardBytes (boardOf d)) (x .number) (1 + x .mark) ≡ boardBytes (boardOf withHost)
+  unfolding boardOf rowIn listsProcessor classIn homeIn sharedIn
   host-step byte new few =
-      store-host (tableOf (markIn d) 0 256) (tableOf (rowIn d) 0 256) (tableOf (classIn d) 0 rows) (tableOf (homeIn d) 0 rows)
-      (table-length (markIn d) 256 0) (table-length (rowIn d) 256 0) (table-length (classIn d) rows 0) (1 + x .mark) (x .number) byte
-      ∙ ap (λ (l : List ℕ). l ++ tableOf (rowIn d) 0 256 ++ tableOf (classIn d) 0 rows ++ tableOf (homeIn d) 0 rows)
-      (table-put (markIn d) (markIn withHost) (1 + x .mark) 256 (x .number) (mark-here new few) mark-there)
+      let put = table-put (markIn d) (markIn withHost) (1 + x .mark) 256 (x .number) (mark-here new few) mark-there in
+      host-stored (boardOf d) (board-sized d) (x .number) (1 + x .mark) byte
+      ∙ (λ t. boardBytes (record { hosts = put t; places = boardOf d .places; classes = boardOf d .classes; homes = boardOf d .homes }))
 
 -- ---- one processor more
 
@@ -150,25 +149,21 @@ module _ (d : Description) (x : Item) where
 
   -- the memory of the board with one processor more
   processor-step : (row : ℕ) → row ≡ length (d .processors) → x .number < 256 → listsProcessor d (x .number) ≡ false → row < rows
-      → set (set (set (boardBytes (boardOf d)) (256 + x .number) row) (512 + row) (x .mark)) (544 + row) (homeIn (withProcessor d x) row)
+      → withProcessorAt (boardBytes (boardOf d)) (x .number) row (x .mark) (homeIn (withProcessor d x) row)
       ≡ boardBytes (boardOf (withProcessor d x))
-  unfolding boardBytes boardOf markIn
+  unfolding boardOf markIn
   processor-step row last byte new room =
-      let n = x .number in
-      let home = homeIn (withProcessor d x) row in
-      let put-row : set (tableOf (rowIn d) 0 256) n row ≡ tableOf (rowIn (withProcessor d x)) 0 256 =
-      table-put (rowIn d) (rowIn (withProcessor d x)) row 256 n (row-here new ∙ sym last) row-there
-      in
-      let put-class : set (tableOf (classIn d) 0 rows) row (x .mark) ≡ tableOf (classIn (withProcessor d x)) 0 rows =
-      table-put (classIn d) (classIn (withProcessor d x)) (x .mark) rows row (ap (classIn (withProcessor d x)) last ∙ class-here)
+      let with = withProcessor d x in
+      let put-row = table-put (rowIn d) (rowIn with) row 256 (x .number) (row-here new ∙ sym last) row-there in
+      let put-class =
+      table-put (classIn d) (classIn with) (x .mark) rows row (ap (classIn with) last ∙ class-here)
       (λ k other. class-there k (λ same. other (same ∙ sym last)))
       in
-      let put-home : set (tableOf (homeIn d) 0 rows) row home ≡ tableOf (homeIn (withProcessor d x)) 0 rows =
-      table-put (homeIn d) (homeIn (withProcessor d x)) home rows row refl (λ k other. home-there k (λ same. other (same ∙ sym last)))
+      let put-home =
+      table-put (homeIn d) (homeIn with) (homeIn with row) rows row refl (λ k other. home-there k (λ same. other (same ∙ sym last)))
       in
-      store-processor (tableOf (markIn d) 0 256) (tableOf (rowIn d) 0 256) (tableOf (classIn d) 0 rows) (tableOf (homeIn d) 0 rows)
-      (table-length (markIn d) 256 0) (table-length (rowIn d) 256 0) (table-length (classIn d) rows 0) n row (x .mark) home byte room
-      ∙ (λ t. tableOf (markIn d) 0 256 ++ put-row t ++ put-class t ++ put-home t)
+      processor-stored (boardOf d) (board-sized d) (x .number) row (x .mark) (homeIn with row) byte room
+      ∙ (λ t. boardBytes (record { hosts = boardOf d .hosts; places = put-row t; classes = put-class t; homes = put-home t }))
 
 -- ---- one item more
 
@@ -194,9 +189,7 @@ module _ (d : Description) (x : Item) where
       ∙ ap (λ (e : Description). boardBytes (boardOf e)) (sym (is-host t)))
       (λ (f : isHost x ≡ false).
       cond-false _ _ f
-      ∙ ap
-      (λ (e : Description). set (set (set (boardBytes (boardOf d)) (256 + x .number) row) (512 + row) (x .mark)) (544 + row) (homeIn e row))
-      (is-processor f)
+      ∙ ap (λ (e : Description). withProcessorAt (boardBytes (boardOf d)) (x .number) row (x .mark) (homeIn e row)) (is-processor f)
       ∙ processor-step d x row last byte (sym (cond-false _ _ f) ∙ new) (room f)
       ∙ ap (λ (e : Description). boardBytes (boardOf e)) (sym (is-processor f)))
       (decide (isHost x))

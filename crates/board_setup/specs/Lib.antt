@@ -1,2 +1,2 @@
 -- What the board memory holds after an offer, and the steps that fill it.
-pub mod Filled
+pub mod Setup

@@ -7,19 +7,19 @@ ghost use mathlib.Core.Path.{_≡_};
 ghost use mathlib.Core.Bool.{false};
 ghost use Prim.Native.Nat.{_≤_, _<_};
 ghost use Rattle.rules.specs.declared.Verdict.the-variants.{Accepted};
+ghost use Rattle.rules.specs.Board.{rows};
 ghost use Rattle.rules.specs.Description.{isHost, withItem, sharedCluster, homeIn, boardVerdict, described, itemProcessor};
 ghost use Rattle.board.specs.Memory.{boardBytes};
 ghost use Rattle.board_description.specs.Cursor.{listedBefore};
-ghost use Rattle.board_setup.specs.Filled.{Behind, boardAfter, sharesWord, rowAfter, putItem};
+ghost use Rattle.board_setup.specs.Setup.{Behind, boardAfter, sharesWord, rowAfter, putItem};
 use board::BoardMemory;
-use board::CLASSES;
-use board::HOMES;
-use board::PLACES;
 use board::clear;
+use board::store_host;
+use board::store_processor;
 use board_description::HOST;
 use board_description::field_size;
 use board_description::item_at;
-use board_description::judge;
+use board_description::judge_description;
 use rules::Item;
 use rules::Verdict;
 
@@ -38,7 +38,7 @@ fn shared_cluster(item: Item) -> u8
 
 // The first free row once an item is put, where `row` was the first before: a host takes none.
 fn row_after(row: u8, item: Item) -> u8
-    requires { ⌜ row < 255 ⌝ }
+    requires { ⌜ row ≤ rows ⌝ }
     ensures { λ r. ⌜ r ≡ rowAfter row item ⌝ }
 {
     if item.tag == HOST {
@@ -58,7 +58,7 @@ fn shares(item: Item, cluster: u8) -> bool
 // the row of the first of them that has the same word, or its own.
 fn home_of(description: &[u8], count: usize, item: Item, row: u8) -> u8
     requires { ⌜ Behind (now description) count row ⌝ }
-    requires { ⌜ (isHost item ≡ false) × (row < 32) ⌝ }
+    requires { ⌜ (isHost item ≡ false) × (row < rows) ⌝ }
     ensures { λ r. ⌜ r ≡ homeIn (withItem (listedBefore (now (description .entry)) count) item) row ⌝ }
 {
     let cluster = shared_cluster(item);
@@ -84,19 +84,17 @@ fn home_of(description: &[u8], count: usize, item: Item, row: u8) -> u8
 // The item has no fault, so its mark is 0 or 1, and a processor finds a row.
 fn put(board: &mut BoardMemory, description: &[u8], count: usize, item: Item, row: u8)
     requires { ⌜ Behind (now description) count row ⌝ }
-    requires { ⌜ (item .mark ≤ 1) × (isHost item ≡ false → row < 32) ⌝ }
-    ensures { λ _. ⌜ now (board .exit) ≡ putItem (now (board .entry)) (listedBefore (now (description .entry)) count) item row ⌝ }
+    requires { ⌜ (item .mark ≤ 1) × (isHost item ≡ false → row < rows) ⌝ }
+    ensures { λ _. ⌜
+        now (board .exit) ≡ putItem (now (board .entry)) (listedBefore (now (description .entry)) count) item row
+        ⌝ }
 {
-    let number = item.number as usize;
     if item.tag == HOST {
-        board[number] = 1 + item.mark;
+        store_host(board, item.number, 1 + item.mark);
         return;
     }
     let home = home_of(description, count, item, row);
-    let place = row as usize;
-    board[PLACES + number] = row;
-    board[CLASSES + place] = item.mark;
-    board[HOMES + place] = home;
+    store_processor(board, item.number, row, item.mark, home);
 }
 
 // Puts the board that an accepted description describes into the memory, whatever that held.
@@ -117,13 +115,13 @@ fn fill(board: &mut BoardMemory, description: &[u8])
     }
 }
 
-// The board call: judges first, and on a refusal writes nothing. `listed` says whether a list or a
+// Judges a description and puts its board in force; on a refusal writes nothing. `listed` says whether a list or a
 // block was accepted before.
-pub fn offer_board(board: &mut BoardMemory, listed: bool, description: &[u8]) -> Verdict
+pub fn set_board(board: &mut BoardMemory, listed: bool, description: &[u8]) -> Verdict
     ensures verdict { λ r. ⌜ r ≡ boardVerdict listed (now (description .entry)) ⌝ }
     ensures memory { λ _. ⌜ now (board .exit) ≡ boardAfter (now (board .entry)) listed (now (description .entry)) ⌝ }
 {
-    match judge(listed, description) {
+    match judge_description(listed, description) {
         Verdict::Accepted => {}
         fault => return fault,
     }

@@ -2,7 +2,7 @@
 ghost use mathlib.Core.Path.{_≡_};
 ghost use Rattle.rules.specs.Description.{ours};
 ghost use Rattle.board.specs.Memory.{boardBytes};
-use crate::offer_board;
+use crate::set_board;
 use board::BoardMemory;
 
 // Document 01's board: hosts 3 and 10 secure, 4, 5, 6, 12 and 13 not; the R5 processors 1 and 2,
@@ -23,5 +23,5 @@ const OURS: [u8; 59] = *b"\x01\x02\x00\x03\x01\
 pub fn start(board: &mut BoardMemory)
     ensures { λ _. ⌜ now (board .exit) ≡ boardBytes ours ⌝ }
 {
-    let _taken = offer_board(board, false, &OURS);
+    let _taken = set_board(board, false, &OURS);
 }

@@ -18,7 +18,7 @@ use Rattle.rules.proofs.Tests.{decide, cond-true, cond-false}
 use Rattle.rules.proofs.Blocks.{accepted-ends, B8-first}
 use Rattle.board.specs.Memory.{boardIn}
 use Rattle.board.proofs.Read.{board-back}
-use Rattle.board_setup.specs.Filled.{boardAfter}
+use Rattle.board_setup.specs.Setup.{boardAfter}
 use Rattle.access.specs.Memory.{listedIn, entriesIn, someList, setupIn, keptSetup}
 use Rattle.access.proofs.Kept.{listed-some}
 use Rattle.call_offer.specs.Loaded.{accessAfter, accessAfterBlock}

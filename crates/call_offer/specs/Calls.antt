@@ -10,7 +10,7 @@ use Rattle.rules.specs.AccessList.{verdictOf}
 use Rattle.rules.specs.Block.{blockVerdict, reportedHost}
 use Rattle.rules.specs.Call.{board, list, block, offer, next}
 use Rattle.board.specs.Memory.{boardIn}
-use Rattle.board_setup.specs.Filled.{boardAfter}
+use Rattle.board_setup.specs.Setup.{boardAfter}
 use Rattle.access.specs.Memory.{listedIn}
 use Rattle.call_offer.specs.Loaded.{accessAfter, accessAfterBlock}
 use Rattle.record.specs.Memory.{stateIn, kept}

@@ -16,7 +16,7 @@ use rules::Verdict;
 pub fn offer_board(board: &mut BoardMemory, access: &AccessMemory, description: &[u8]) -> Verdict
     ensures { λ r. ⌜ BoardCall (now (board .entry)) (now (access .entry)) (now (description .entry)) (now (board .exit)) r ⌝ }
 {
-    board_setup::offer_board(board, is_listed(&access[..]), description)
+    board_setup::set_board(board, is_listed(&access[..]), description)
 }
 
 // Offers an access list. The first good one is taken and is in force from then on, unless a block was taken

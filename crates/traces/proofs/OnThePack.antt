@@ -16,7 +16,7 @@ use Rattle.rules.specs.BenchBoard.{packBytes, packList}
 use Rattle.noninterference.specs.Statement.{clustersWhole}
 use Rattle.board.specs.Memory.{boardIn, boardBytes}
 use Rattle.board.proofs.Read.{board-back}
-use Rattle.board_setup.specs.Filled.{boardAfter}
+use Rattle.board_setup.specs.Setup.{boardAfter}
 use Rattle.access.specs.Memory.{listedIn}
 use Rattle.call_offer.specs.Loaded.{accessAfter}
 use Rattle.call_offer.specs.Calls.{BoardCall, ListCall}

@@ -6,7 +6,7 @@ use borrow.Author.Needs.{needs}
 use denote.Ref.{now}
 use lib.ListN.{length}
 use Rattle.board_description.proofs.Fields.{field-some}
-use Rattle.board_setup.proofs.Fills.{Filled, filled-start, fill-behind, fill-mark, fill-room, fill-next, fill-end}
+use Rattle.board_setup.proofs.Fills.{Filled, filled-start, fill-ready, fill-next, fill-end}
 use Rattle.board_setup.proofs.fill.Statement.{statement}
 use Rattle.board_setup.proofs.fill.Tie as tie
 
@@ -21,17 +21,8 @@ loop-holds c = filled-start (now (c .before .before .before .args .description))
 
 put-requires : tie.Need-put-requires Inv-loop μ-loop
 put-requires c κs =
-    let l = c .before .before .before .loop in
-    let start = c .before .before .before .before .before .before .before in
-    let bytes = now (start .args .description) in
-    let test = c .before .before .loop-test .taken in
-    let read = c .before .item-at .ensures in (
-      fill-behind bytes (l .board) (l .at) (l .count) (l .row) (l .inv) test read (start .pre),
-      (
-        fill-mark bytes (l .board) (l .at) (l .count) (l .row) (l .inv) test read (start .pre),
-        fill-room bytes (l .board) (l .at) (l .count) (l .row) (l .inv) test read (start .pre),
-      ),
-    )
+    let l = c .before .before .before in
+    fill-ready (l .loop .inv) (c .before .before .loop-test .taken) (c .before .item-at .ensures) (l .before .before .before .before .pre)
 
 row-after-requires : tie.Need-row-after-requires Inv-loop μ-loop
 row-after-requires c κs = omega (arith, c .before .before .before .before .loop .inv .few)
@@ -39,11 +30,10 @@ row-after-requires c κs = omega (arith, c .before .before .before .before .loop
 -- the item is put: the walk goes on
 next : tie.Need-loop-again Inv-loop μ-loop
 next c =
-    let l = c .before .before .before .before .before .before .loop in
-    let start = c .before .before .before .before .before .before .before .before .before .before in
     let read = c .before .before .before .before in
-    fill-next (now (start .args .description)) (l .board) (l .at) (l .count) (l .row) (l .inv) (read .before .loop-test .taken)
-    (read .item-at .ensures) (start .pre) (search needs) (c .before .before .put .ensures) (c .before .row-after .ensures) (c .field-size .ensures)
+    let l = read .before .before in
+    fill-next (l .loop .inv) (read .before .loop-test .taken) (read .item-at .ensures) (l .before .before .before .before .pre) (search needs)
+    (c .before .before .put .ensures) (c .before .row-after .ensures) (c .field-size .ensures)
 
 add-at : tie.Need-add-at Inv-loop μ-loop
 add-at c = omega (arith, next c .reached .within)
@@ -58,24 +48,10 @@ loop-again : tie.Need-loop-again Inv-loop μ-loop
 loop-again c = next c
 
 returns : tie.Need-returns Inv-loop μ-loop
-returns c =
-    let l = c .before .loop in
-    fill-end (now (c .before .before .before .before .before .args .description)) (l .board) (l .at) (l .count) (l .row) (l .inv) (c .loop-test .left)
+returns c = fill-end (c .before .loop .inv) (c .loop-test .left)
 
 pub fill-spec : {M : Type 1} → statement M
 fill-spec =
     tie.close
-    (tie.spec
-    Inv-loop
-    μ-loop
-    (λ c κs. search needs)
-    loop-holds
-    (λ c κs. search needs)
-    put-requires
-    row-after-requires
-    (λ c κs. search needs)
-    add-at
-    add-count
-    loop-less
-    loop-again
-    returns)
+    (tie.spec Inv-loop μ-loop (λ c κs. search needs) loop-holds (λ c κs. search needs) put-requires row-after-requires
+    (λ c κs. search needs) add-at add-count loop-less loop-again returns)

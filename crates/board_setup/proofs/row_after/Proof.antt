@@ -3,7 +3,7 @@ use mathlib.Core.Path.{sym}
 use borrow.Author.Needs.{needs}
 use borrow.Author.Tests.{eq-eqb, ne-eqb}
 use Rattle.rules.proofs.Tests.{cond-true, cond-false}
-use Rattle.board_setup.specs.Filled.{rowAfter}
+use Rattle.board_setup.specs.Setup.{rowAfter}
 use Rattle.board_setup.proofs.row_after.Statement.{statement}
 use Rattle.board_setup.proofs.row_after.Tie as tie
 

@@ -5,7 +5,7 @@ use mathlib.Core.Bool.{not, _&&_}
 use borrow.Author.Needs.{needs}
 use lib.Dec.{eqb}
 use Rattle.rules.specs.Description.{isHost}
-use Rattle.board_setup.specs.Filled.{sharesWord}
+use Rattle.board_setup.specs.Setup.{sharesWord}
 use Rattle.board_setup.proofs.shares.Statement.{statement}
 use Rattle.board_setup.proofs.shares.Tie as tie
 

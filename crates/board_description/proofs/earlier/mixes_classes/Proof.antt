@@ -1,6 +1,6 @@
 -- `board_description::mixes_classes` meets its contract.
 use borrow.Author.Needs.{needs}
-use Rattle.board_description.specs.Compared.{mixesClasses}
+use Rattle.board_description.specs.EarlierItems.{mixesClasses}
 use Rattle.board_description.proofs.earlier.mixes_classes.Statement.{statement}
 use Rattle.board_description.proofs.earlier.mixes_classes.Tie as tie
 

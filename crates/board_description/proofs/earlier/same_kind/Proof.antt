@@ -2,7 +2,7 @@
 use mathlib.Core.Path.{sym}
 use borrow.Author.Tests.{eq-eqb, ne-eqb}
 use Rattle.rules.proofs.Tests.{cond-true, cond-false}
-use Rattle.board_description.specs.Compared.{sameKind}
+use Rattle.board_description.specs.EarlierItems.{sameKind}
 use Rattle.board_description.proofs.earlier.same_kind.Statement.{statement}
 use Rattle.board_description.proofs.earlier.same_kind.Tie as tie
 

@@ -6,7 +6,7 @@ use Rattle.board_setup.proofs.starting.start.Statement.{statement}
 use Rattle.board_setup.proofs.starting.start.Tie as tie
 
 returns : tie.Need-returns
-returns c = start-taken _ _ (c .offer-board .ensures .1) refl
+returns c = start-taken _ _ (c .set-board .ensures .1) refl
 
 pub start-spec : {M : Type 1} → statement M
 start-spec = tie.close (tie.spec (λ c. search needs) (λ c κs. search needs) returns)

@@ -1,14 +1,12 @@
--- What the items before an item of a board description say of it, noted one at a time: the answers that document 02's D3, D5 and D6 ask
--- for.
-use Prim.Native.Nat.{ℕ, zero, suc, _+_}
+-- What the items before an item of a board description say of it, noted one at a time: the answers that document 02's D3, D5 and D6
+-- ask for.
+use Prim.Native.Nat.{ℕ, _+_}
 use mathlib.Core.Bool.{Bool, cond, not, _&&_, _||_}
-use mathlib.Core.List.{List}
 use lib.ListN.{length}
-use lib.Dec.{eqb, ltb}
+use lib.Dec.{eqb}
 use Rattle.rules.specs.declared.Item.{Item}
-use Rattle.rules.specs.Description.{Description, nothingListed, isHost, repeats, otherClass, withItem}
-use Rattle.board_description.specs.Cursor.{cursorAt, itemNo}
-use Rattle.board_description.specs.declared.fault.Before.{Before}
+use Rattle.rules.specs.Description.{Description, isHost, repeats, otherClass}
+use Rattle.board_description.specs.declared.earlier.Before.{Before}
 
 -- the items are of one kind
 unfoldable pub sameKind : Item → Item → Bool
@@ -35,9 +33,3 @@ noted x b y =
       mixed = b .mixed || mixesClasses x y;
       same = cond (sameKind x y) (b .same + 1) (b .same);
     }
-
--- what the first k items list, those of them that begin within the bytes
-unfoldable pub listedWithin : List ℕ → ℕ → Description
-listedWithin bytes zero = nothingListed
-listedWithin bytes (suc k) =
-    cond (ltb (cursorAt bytes k) (length bytes)) (withItem (listedWithin bytes k) (itemNo bytes k)) (listedWithin bytes k)

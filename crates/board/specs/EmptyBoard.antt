@@ -1,4 +1,4 @@
--- The board memory where nothing is listed, byte by byte.
+-- The memory of a board with nothing listed, byte by byte.
 use Prim.Native.Nat.{ℕ, _-_}
 use mathlib.Core.Bool.{cond}
 use lib.Dec.{ltb}

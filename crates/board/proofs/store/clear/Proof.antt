@@ -6,16 +6,17 @@ use native.Mathlib.Omega.{arith}
 use borrow.Author.Needs.{needs}
 use denote.Ref.{now}
 use lib.ListN.{length, set, take, drop, length-set}
-use Rattle.board.proofs.Cleared.{clearBytes, clear-next, clear-all}
-use Rattle.board.proofs.clearing.clear.Statement.{statement}
-use Rattle.board.proofs.clearing.clear.Tie as tie
+use Rattle.board.specs.Memory.{boardSize}
+use Rattle.board.proofs.EmptyBoard.{clearBytes, clear-next, clear-all}
+use Rattle.board.proofs.store.clear.Statement.{statement}
+use Rattle.board.proofs.store.clear.Tie as tie
 
 abbrev Inv-loop : tie.InvT-loop
 Inv-loop memory₀ i₀ memory i =
-    (i ≤ 576) × (length memory₀ ≡ 576) × (length memory ≡ 576) × (memory ≡ take i clearBytes ++ drop i memory₀)
+    (i ≤ boardSize) × (length memory₀ ≡ boardSize) × (length memory ≡ boardSize) × (memory ≡ take i clearBytes ++ drop i memory₀)
 
 abbrev μ-loop : tie.MeasureT-loop
-μ-loop memory₀ i₀ memory i = 576 - i
+μ-loop memory₀ i₀ memory i = boardSize - i
 
 loop-holds : tie.Need-loop-holds Inv-loop μ-loop
 loop-holds c = (omega arith, search needs, search needs, refl)
@@ -39,13 +40,5 @@ returns c =
 pub clear-spec : {M : Type 1} → statement M
 clear-spec =
     tie.close
-    (tie.spec
-    Inv-loop
-    μ-loop
-    loop-holds
-    (λ c κs. omega arith)
-    (λ c. omega arith)
-    (λ c. omega arith)
-    (λ c. omega arith)
-    loop-again
-    returns)
+    (tie.spec Inv-loop μ-loop loop-holds (λ c κs. omega arith) (λ c. omega arith) (λ c. omega arith)
+    (λ c. omega arith) loop-again returns)

@@ -1,4 +1,4 @@
--- Laws of the cleared memory: a byte at a time it becomes that of a board with nothing listed.
+-- Laws of the memory that is cleared: a byte at a time it becomes that of a board with nothing listed.
 use Prim.Native.Nat.{ℕ, _+_, _≤_, _<_}
 use native.Mathlib.Nat.{zero-add}
 use native.Mathlib.Numerals.{add-one}
@@ -12,14 +12,14 @@ use lib.Dec.{eqb}
 use Rattle.rules.specs.Table.{firstOf, anyOf, placeOf, allFrom, tableOf}
 use Rattle.rules.specs.Description.{nothingListed, listsProcessor, markIn, rowIn, classIn, sharedIn, homeIn, boardOf}
 use Rattle.rules.proofs.Tests.{allFrom-gives}
-use Rattle.board.specs.Memory.{boardBytes}
-use Rattle.board.specs.Cleared.{clearByte}
+use Rattle.board.specs.Memory.{boardSize, boardBytes}
+use Rattle.board.specs.EmptyBoard.{clearByte}
 
 -- the bytes of a board with nothing listed
 abbrev pub clearBytes : List ℕ
 clearBytes = boardBytes (boardOf nothingListed)
 
-clear-length : length clearBytes ≡ 576
+clear-length : length clearBytes ≡ boardSize
 unfolding boardBytes boardOf tableOf
 clear-length = refl
 
@@ -28,11 +28,11 @@ clear-gives : allFrom (λ (i x : ℕ). eqb x (clearByte i)) 0 clearBytes ≡ tru
 unfolding boardBytes boardOf tableOf allFrom nothingListed listsProcessor markIn rowIn classIn sharedIn homeIn firstOf anyOf placeOf clearByte
 clear-gives = refl
 
-clear-at : (i : ℕ) → i < 576 → getD clearBytes i 0 ≡ clearByte i
+clear-at : (i : ℕ) → i < boardSize → getD clearBytes i 0 ≡ clearByte i
 clear-at i h = allFrom-gives clearByte clearBytes i 0 clear-gives (let n = clear-length in omega arith)
 
 -- a byte is put behind those that stand at the start of the memory
-pub clear-next : (held : List ℕ) (i : ℕ) {b : ℕ} → i < 576 → length held ≡ 576 → b ≡ clearByte i
+pub clear-next : (held : List ℕ) (i : ℕ) {b : ℕ} → i < boardSize → length held ≡ boardSize → b ≡ clearByte i
     → set (take i clearBytes ++ drop i held) i b ≡ take (i + 1) clearBytes ++ drop (i + 1) held
 clear-next held i h size told =
     let n = clear-length in
@@ -41,7 +41,7 @@ clear-next held i h size told =
     ∙ ap (λ (k : ℕ). take k clearBytes ++ drop k held) (sym (add-one i))
 
 -- all are put
-pub clear-all : (held : List ℕ) (i : ℕ) → length held ≡ 576 → i ≡ 576 → take i clearBytes ++ drop i held ≡ clearBytes
+pub clear-all : (held : List ℕ) (i : ℕ) → length held ≡ boardSize → i ≡ boardSize → take i clearBytes ++ drop i held ≡ clearBytes
 clear-all held i size all =
     let n = clear-length in
     let past : length held ≤ i = omega arith in

@@ -4,13 +4,13 @@ use Prim.Native.Nat.{ℕ, _+_, _≤_}
 use mathlib.Core.Path.{_≡_}
 use mathlib.Core.Bool.{Bool, cond, not, _&&_}
 use mathlib.Core.List.{List}
-use lib.ListN.{length, set}
+use lib.ListN.{length}
 use lib.Dec.{eqb}
 use Rattle.rules.specs.declared.Item.{Item}
 use Rattle.rules.specs.Verdict.{accepted}
 use Rattle.rules.specs.Description.{Description, isHost, itemProcessor, withItem, boardVerdict, sharedCluster, homeIn, described}
 use Rattle.board_description.specs.Cursor.{cursorAt, listedBefore}
-use Rattle.board.specs.Memory.{boardBytes, placesPlace, classesPlace, homesPlace}
+use Rattle.board.specs.Memory.{boardBytes, withHostMark, withProcessorAt}
 
 -- what the memory holds after an offer: the described board, or what it held where the description is refused
 unfoldable pub boardAfter : List ℕ → Bool → List ℕ → List ℕ
@@ -35,5 +35,5 @@ pub record Behind (bytes : List ℕ) (count row : ℕ) : Type 0 where
 unfoldable pub putItem : List ℕ → Description → Item → ℕ → List ℕ
 putItem m d x row =
     cond (isHost x)
-    (set m (x .number) (1 + x .mark))
-    (set (set (set m (placesPlace + x .number) row) (classesPlace + row) (x .mark)) (homesPlace + row) (homeIn (withItem d x) row))
+    (withHostMark m (x .number) (1 + x .mark))
+    (withProcessorAt m (x .number) row (x .mark) (homeIn (withItem d x) row))
