@@ -1,4 +1,3 @@
 -- What the proofs of this crate and of those above it share.
--- What the proofs of this crate and of those above it share.
 pub mod Kept
-pub mod Words
+pub mod InForce

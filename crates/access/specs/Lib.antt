@@ -1,4 +1,3 @@
--- What the lent access memory holds.
--- The access memory that a list in force leaves.
+-- What the lent access memory holds, and what a list in force leaves in it.
 pub mod Memory
 pub mod InForce

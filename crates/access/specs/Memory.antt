@@ -19,6 +19,9 @@ listedIn m = not (eqb (getD m 0 0) 0)
 abbrev pub entryPlace : ℕ → ℕ
 entryPlace row = 1 + 4 * row
 
+abbrev pub accessSize : ℕ
+accessSize = 129
+
 unfoldable pub entryAt : List ℕ → ℕ → Entry
 entryAt m row =
     record {

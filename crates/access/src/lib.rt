@@ -1,8 +1,9 @@
 // The access memory, asked whether a list was accepted, alone or in a block, and for the role of a host at a
-// row. Its layout is specs/Memory.antt; any content of it is a state. Hosts are 16-bit numbers throughout.
+// row; and a list put in force (module store). Its layout is specs/Memory.antt; any content of it is a state.
+// Hosts are 16-bit numbers throughout.
 mod store;
 
-pub use store::load;
+pub use store::put_in_force;
 ghost use mathlib.Core.Path.{_≡_};
 ghost use mathlib.Core.Bool.{cond};
 ghost use lib.ListN.{getD};
@@ -21,7 +22,7 @@ pub const ACCESS_WORDS: usize = 129;
 pub type AccessMemory = [u16; ACCESS_WORDS];
 
 // The first entry's place, and how many words an entry has: the master and three secondaries.
-const ENTRIES: usize = 1;
+const FIRST_ENTRY: usize = 1;
 
 const ENTRY_WORDS: usize = 4;
 
@@ -60,7 +61,7 @@ pub fn role_of(board: &BoardMemory, access: &[u16], row: u8, host: u16) -> Role
     if host == 0 {
         return Role::None;
     }
-    let at = ENTRIES + ENTRY_WORDS * (row as usize);
+    let at = FIRST_ENTRY + ENTRY_WORDS * (row as usize);
     let master = word_at(access, at);
     if master == host {
         return Role::Master;

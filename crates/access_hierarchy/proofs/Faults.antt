@@ -1,144 +1,103 @@
 -- Laws of a hierarchy: what one pair comes to, what is left after it, and what the lines behind the pairs come to.
 use Prim.Native.Nat.{ℕ, _+_, _*_, _<_}
 use mathlib.Core.Path.{_≡_, refl, sym, ap, _∙_}
-use mathlib.Core.Bool.{Bool, true, false, cond, not}
-use mathlib.Core.List.{List, [], _∷_}
+use mathlib.Core.Bool.{Bool, true, cond, not}
+use mathlib.Core.List.{List, [], _∷_, _++_}
 use native.Mathlib.Omega.{arith}
 use lib.Dec.{eqb}
-use borrow.Author.Tests.{eq-eqb, ne-eqb}
+use borrow.Author.Tests.{ne-eqb}
 use Rattle.rules.specs.declared.Verdict.{Verdict}
 use Rattle.rules.specs.declared.Verdict.the-variants.{Accepted, B3, B4, B5, B6, B7, B8}
 use Rattle.rules.specs.Table.{Line, _gives_, firstOf}
 use Rattle.rules.specs.Bytes.{byteAt}
 use Rattle.rules.specs.Verdict.{accepted}
 use Rattle.rules.specs.Board.{Board, boardHost}
-use Rattle.rules.specs.Substructure.{magicIn, sizeIn, partAt, inTurn}
-use Rattle.rules.specs.Hierarchy.{pairs, hostIn, supervisorIn, loopHost, pairTable, hierarchyTable, loopReported}
-use Rattle.rules.proofs.Tests.{cond-true, cond-false, firstOf-append, skipped, none-not, none-falls, none-stops}
-use Rattle.rules.proofs.Verdicts.{not-accepted}
+use Rattle.rules.specs.Substructure.{headSize, entryCount, magicIn, sizeIn, partAt, inTurn}
+use Rattle.rules.specs.Hierarchy.{hierarchySize, pairSize, pairs, hostIn, supervisorIn, loopHost, pairTable, hierarchyTable, loopReported}
+use Rattle.rules.proofs.Tests.{cond-false, firstOf-append, noneGood, none-not}
 use Rattle.rules.proofs.Parts.{part-byte, number-read}
 use Rattle.rules.proofs.Blocks.{pair-none, pairs-none, refused-number, isB8, B8-number}
-use Rattle.access_list.specs.Entries.{partsBefore, writtenBefore, verdictFrom}
-use Rattle.access_list.proofs.Faults.{written-named, from-entry}
+use Rattle.access_list.specs.Entries.{partsBefore, numberBefore}
+use Rattle.access_list.proofs.Substructure.{past-head, fault-stops, good-falls, number-named, verdictFrom, from-entry}
 
 -- ---- one pair
 
--- what has been read of it: the host
-module _ (b : Board) (bytes : List ℕ) (e : ℕ) {host : ℕ} (at : host ≡ byteAt bytes (4 + 2 * e)) where
-  host-is : hostIn (partAt 2 bytes e) ≡ host
-  host-is = number-read 2 bytes e (omega arith) at
+-- its lines, after the pairs before it
+abbrev pub pairLines : Board → List ℕ → ℕ → List (Line Verdict)
+pairLines b bytes e = pairTable b (partsBefore pairSize bytes e) (partAt pairSize bytes e)
 
-  abbrev own : List (Line Verdict)
-  own = pairTable b (partsBefore 2 bytes e) (partAt 2 bytes e)
+-- what has been read of it: the host
+module _ (b : Board) (bytes : List ℕ) (e : ℕ) {host : ℕ} (at : host ≡ byteAt bytes (headSize + pairSize * e)) where
+  host-is : hostIn (partAt pairSize bytes e) ≡ host
+  host-is = number-read pairSize bytes e (omega arith) at
 
   -- an unused one is passed over
-  pub unused-pair : host ≡ 0 → firstOf Accepted own ≡ Accepted
+  pub unused-pair : host ≡ 0 → firstOf Accepted (pairLines b bytes e) ≡ Accepted
   unfolding firstOf pairTable
-  unused-pair none = let is : hostIn (partAt 2 bytes e) ≡ 0 = host-is ∙ none in rw is
+  unused-pair none = let is : hostIn (partAt pairSize bytes e) ≡ 0 = host-is ∙ none in rw is
 
-  -- the three lines of a used one, with its supervisor
-  module _ (some : host ≡ 0 → ⊥) where
-    supervisor-is : supervisorIn (partAt 2 bytes e) ≡ byteAt bytes (4 + 2 * e + 1)
-    supervisor-is = part-byte 2 bytes e 1 (omega arith)
-
-    used-pair : firstOf Accepted own
-        ≡ cond (not (boardHost b host)) B5 (cond (not (boardHost b (byteAt bytes (4 + 2 * e + 1)))) B6 (cond (writtenBefore 2 bytes e host) B7 Accepted))
-    unfolding firstOf pairTable
-    used-pair =
-        rw (host-is, supervisor-is, ne-eqb host 0 some, sym (written-named 2 bytes e host (omega arith) some))
-
-    pub bad-host : {r : Bool} → r ≡ boardHost b host → not r ≡ true → firstOf Accepted own ≡ B5
-    bad-host is no-host = used-pair ∙ cond-true B5 _ (ap not (sym is) ∙ no-host)
-
-    module _ {r : Bool} (is : r ≡ boardHost b host) (on : not r ≡ false) where
-      past-host : firstOf Accepted own ≡ cond (not (boardHost b (byteAt bytes (4 + 2 * e + 1)))) B6 (cond (writtenBefore 2 bytes e host) B7 Accepted)
-      past-host = used-pair ∙ cond-false B5 _ (ap not (sym is) ∙ on)
-
-      module _ {x : ℕ} {s : Bool} (read : x ≡ byteAt bytes (4 + 2 * e + 1)) (asked : s ≡ boardHost b x) where
-        asked-is : not (boardHost b (byteAt bytes (4 + 2 * e + 1))) ≡ not s
-        asked-is = ap not (ap (boardHost b) (sym read) ∙ sym asked)
-
-        pub bad-supervisor : not s ≡ true → firstOf Accepted own ≡ B6
-        bad-supervisor no-host = past-host ∙ cond-true B6 _ (asked-is ∙ no-host)
-
-        pub named-twice : {n : Bool} → not s ≡ false → n ≡ writtenBefore 2 bytes e host → firstOf Accepted own ≡ cond n B7 Accepted
-        named-twice fine before = past-host ∙ cond-false B6 _ (asked-is ∙ fine) ∙ ap (λ (x : Bool). cond x B7 Accepted) (sym before)
+  -- the three lines of a used one, by its supervisor and what the code asks of the two
+  pub used-pair : {s : ℕ} {x y n : Bool} → (host ≡ 0 → ⊥) → s ≡ byteAt bytes (headSize + pairSize * e + 1) → x ≡ boardHost b host → y ≡ boardHost b s
+      → n ≡ numberBefore pairSize bytes e host → firstOf Accepted (pairLines b bytes e) ≡ cond (not x) B5 (cond (not y) B6 (cond n B7 Accepted))
+  unfolding firstOf pairTable
+  used-pair some read one other before =
+      let supervisor-is : supervisorIn (partAt pairSize bytes e) ≡ _ = part-byte pairSize bytes e 1 (omega arith) ∙ sym read in
+      rw (host-is, supervisor-is, ne-eqb host 0 some, one, other, before, number-named pairSize bytes e host (omega arith) some)
 
 -- ---- the pairs in turn
 
 -- what those from e on come to
 abbrev pub left-from : Board → List ℕ → ℕ → Verdict
-left-from b bytes e = verdictFrom (pairTable b) 2 bytes e
+left-from b bytes e = verdictFrom (pairTable b) pairSize bytes e
 
-module _ (b : Board) (bytes : List ℕ) (e : ℕ) {fault : Verdict} (h : e < 32)
-    (judged : fault ≡ firstOf Accepted (pairTable b (partsBefore 2 bytes e) (partAt 2 bytes e))) where
+module _ (b : Board) (bytes : List ℕ) (e : ℕ) {fault : Verdict} (h : e < entryCount)
+    (judged : fault ≡ firstOf Accepted (pairLines b bytes e)) where
   pub turn-bad : (fault ≡ Accepted → ⊥) → left-from b bytes e ≡ fault
-  unfolding accepted
-  turn-bad bad =
-      from-entry (pairTable b) 2 bytes e h
-      ∙ none-stops accepted Accepted (left-from b bytes (e + 1)) (pairTable b (partsBefore 2 bytes e) (partAt 2 bytes e)) refl (ap accepted (sym judged) ∙ not-accepted fault bad)
-      ∙ sym judged
+  turn-bad bad = from-entry (pairTable b) pairSize bytes e h ∙ fault-stops _ _ judged bad
 
   pub turn-good : fault ≡ Accepted → left-from b bytes e ≡ left-from b bytes (e + 1)
-  unfolding accepted
   turn-good good =
-      from-entry (pairTable b) 2 bytes e h
-      ∙ none-falls accepted Accepted (left-from b bytes (e + 1)) (pairTable b (partsBefore 2 bytes e) (partAt 2 bytes e))
-      (pair-none accepted refused-number b (partsBefore 2 bytes e) (partAt 2 bytes e)) (ap accepted (sym judged ∙ good))
+      from-entry (pairTable b) pairSize bytes e h
+      ∙ good-falls _ _ judged (pair-none accepted refused-number b (partsBefore pairSize bytes e) (partAt pairSize bytes e)) good
 
 -- ---- the whole hierarchy
 
+-- what is no B8 reports no host
+pub not-B8 : (bytes : List ℕ) (lines : List (Line Verdict)) {v : Verdict} → v ≡ firstOf Accepted lines → noneGood isB8 lines ≡ true → loopReported v bytes ≡ 0
+unfolding loopReported
+not-B8 bytes lines judged none = cond-false _ 0 (ap isB8 judged ∙ none-not isB8 Accepted lines none refl)
+
 -- a report of a verdict that reports no host
-pub alone-told : {r v : Verdict} {host : ℕ} (bytes : List ℕ) {told : Verdict} → r ≡ v → host ≡ 0 → v ≡ told → loopReported v bytes ≡ 0
+pub alone-told : {r v : Verdict} {host : ℕ} (bytes : List ℕ) {told : Verdict} → r ≡ v → host ≡ 0 → told ≡ v → loopReported v bytes ≡ 0
     → (r ≡ told) × (host ≡ loopReported r bytes)
-alone-told bytes is none told silent = (is ∙ told, none ∙ sym (ap (λ (v : Verdict). loopReported v bytes) is ∙ silent))
+alone-told bytes is none told silent = (is ∙ sym told, none ∙ sym (ap (λ (v : Verdict). loopReported v bytes) is ∙ silent))
 
 module _ (b : Board) (bytes : List ℕ) where
+  abbrev pub whole : Verdict
+  whole = firstOf Accepted (hierarchyTable b bytes)
+
   abbrev turns : List (Line Verdict)
   turns = inTurn (pairTable b) [] (pairs bytes)
 
   abbrev loopLine : List (Line Verdict)
   loopLine = (not (eqb (loopHost (pairs bytes)) 0) gives B8) ∷ []
 
-  pub bad-magic : {magic : ℕ} → magic ≡ magicIn bytes → (magic ≡ 0x8D27 → ⊥) → B3 ≡ firstOf Accepted (hierarchyTable b bytes)
-  unfolding hierarchyTable firstOf
-  bad-magic first bad = sym (cond-true B3 _ (ap not (ne-eqb (magicIn bytes) 0x8D27 (λ e. bad (first ∙ e)))))
-
-  pub bad-size : {magic size : ℕ} → magic ≡ magicIn bytes → size ≡ sizeIn bytes → magic ≡ 0x8D27 → (size ≡ 68 → ⊥) → B4 ≡ firstOf Accepted (hierarchyTable b bytes)
-  unfolding hierarchyTable firstOf
-  bad-size first second good bad =
-      sym
-      (cond-false B3 _ (ap not (eq-eqb (magicIn bytes) 0x8D27 (sym first ∙ good)))
-      ∙ cond-true B4 _ (ap not (ne-eqb (sizeIn bytes) 68 (λ e. bad (second ∙ e)))))
-
-  -- behind the header the pairs decide, and then the loop
-  module _ {magic size : ℕ} {fault : Verdict} (first : magic ≡ magicIn bytes) (second : size ≡ sizeIn bytes) (good : magic ≡ 0x8D27) (right : size ≡ 68)
-      (judged : fault ≡ firstOf Accepted turns) where
-    past-header : firstOf Accepted (hierarchyTable b bytes) ≡ firstOf (firstOf Accepted loopLine) turns
+  -- behind the magic and the size the pairs decide, and then the loop
+  module _ {magic size : ℕ} {fault : Verdict} (first : magic ≡ magicIn bytes) (good : magic ≡ 0x8D27) (second : size ≡ sizeIn bytes)
+      (right : size ≡ hierarchySize) (judged : fault ≡ firstOf Accepted turns) where
+    past-header : whole ≡ firstOf (firstOf Accepted loopLine) turns
     unfolding hierarchyTable
     past-header =
-        skipped Accepted _ _ (ap not (eq-eqb (magicIn bytes) 0x8D27 (sym first ∙ good)))
-        ∙ skipped Accepted _ _ (ap not (eq-eqb (sizeIn bytes) 68 (sym second ∙ right)))
+        past-head 0x8D27 B3 hierarchySize B4 bytes (turns ++ loopLine) first good second right
         ∙ firstOf-append Accepted turns loopLine
 
-    pub pairs-bad : (fault ≡ Accepted → ⊥) → (fault ≡ firstOf Accepted (hierarchyTable b bytes)) × (loopReported fault bytes ≡ 0)
-    unfolding loopReported accepted
-    pairs-bad bad = (
-      judged ∙ sym (past-header ∙ none-stops accepted Accepted (firstOf Accepted loopLine) turns refl (ap accepted (sym judged) ∙ not-accepted fault bad)),
-      cond-false _ 0 (ap isB8 judged ∙ none-not isB8 Accepted turns (pairs-none isB8 B8-number b [] (pairs bytes)) refl),
-    )
+    pub pairs-bad : (fault ≡ Accepted → ⊥) → (whole ≡ fault) × (loopReported fault bytes ≡ 0)
+    pairs-bad bad =
+        (past-header ∙ fault-stops _ turns judged bad, not-B8 bytes turns judged (pairs-none isB8 B8-number b [] (pairs bytes)))
 
-    module _ {host : ℕ} (none : fault ≡ Accepted) (found : host ≡ loopHost (pairs bytes)) where
-      past-pairs : firstOf Accepted (hierarchyTable b bytes) ≡ firstOf Accepted loopLine
-      unfolding accepted
-      past-pairs =
-          past-header
-          ∙ none-falls accepted Accepted (firstOf Accepted loopLine) turns (pairs-none accepted refused-number b [] (pairs bytes)) (ap accepted (sym judged ∙ none))
-
-      pub no-loop : host ≡ 0 → Accepted ≡ firstOf Accepted (hierarchyTable b bytes)
-      unfolding firstOf
-      no-loop zero = sym (past-pairs ∙ cond-false B8 Accepted (ap not (eq-eqb (loopHost (pairs bytes)) 0 (sym found ∙ zero))))
-
-      pub some-loop : (host ≡ 0 → ⊥) → B8 ≡ firstOf Accepted (hierarchyTable b bytes)
-      unfolding firstOf
-      some-loop some = sym (past-pairs ∙ cond-true B8 Accepted (ap not (ne-eqb (loopHost (pairs bytes)) 0 (λ zero. some (found ∙ zero)))))
+    pub loop-decides : {host : ℕ} → fault ≡ Accepted → host ≡ loopHost (pairs bytes) → whole ≡ cond (not (eqb host 0)) B8 Accepted
+    unfolding firstOf
+    loop-decides none found =
+        past-header
+        ∙ good-falls _ turns judged (pairs-none accepted refused-number b [] (pairs bytes)) none
+        ∙ ap (λ (h : ℕ). cond (not (eqb h 0)) B8 Accepted) (sym found)

@@ -5,9 +5,12 @@ use lib.ListN.{getD}
 use Rattle.rules.specs.Table.{tableOf}
 use Rattle.rules.specs.Hierarchy.{pairs, supervisorOf}
 
--- the supervisor of each of the 256 host bytes
+-- one for each host byte
+abbrev pub hostCount : ℕ
+hostCount = 256
+
 unfoldable pub supervisorsIn : List ℕ → List ℕ
-supervisorsIn bytes = tableOf (supervisorOf (pairs bytes)) 0 256
+supervisorsIn bytes = tableOf (supervisorOf (pairs bytes)) 0 hostCount
 
 -- the supervisor that a table gives a host
 abbrev pub readFrom : List ℕ → ℕ → ℕ

@@ -1,18 +1,21 @@
 // The host hierarchy of a security board configuration: why it is refused, document 02's B3 to B8, in its
-// order. The rules are rules/specs/Hierarchy.antt. Loops are found by crate loops.
+// order. The rules are rules/specs/Hierarchy.antt. Loops are found by module loops.
 mod loops;
-mod report;
 
-pub use report::verdict_alone;
+ghost use Prim.Native.Nat.{_<_};
 ghost use mathlib.Core.Path.{_≡_};
 ghost use mathlib.Core.List.{[]};
 ghost use Rattle.rules.specs.declared.Verdict.the-variants.{Accepted};
 ghost use Rattle.rules.specs.Table.{firstOf};
-ghost use Rattle.rules.specs.Substructure.{partAt, inTurn};
-ghost use Rattle.rules.specs.Hierarchy.{pairs, pairTable, hierarchyTable, loopReported};
+ghost use Rattle.rules.specs.Substructure.{entryCount, partAt, inTurn};
+ghost use Rattle.rules.specs.Hierarchy.{pairSize, pairs, pairTable, hierarchyTable, loopReported};
 ghost use Rattle.board.specs.Memory.{boardIn};
 ghost use Rattle.access_list.specs.Entries.{partsBefore};
 use crate::loops::loop_host;
+use access_list::ENTRIES;
+use access_list::HEAD_BYTES;
+use access_list::MAGIC_PLACE;
+use access_list::SIZE_PLACE;
 use access_list::named_before;
 use board::BoardMemory;
 use board::is_host;
@@ -21,12 +24,30 @@ use rules::Verdict;
 use wire::byte_at;
 use wire::u16_at;
 
+// The hierarchy, and one pair of it: a host, and behind it the supervisor.
+pub const HIERARCHY_BYTES: usize = 68;
+
+const HIERARCHY_MAGIC: u16 = 0x8D27;
+
+const PAIR_BYTES: usize = 2;
+
+// A verdict that reports no host.
+pub fn verdict_alone(verdict: Verdict) -> BlockReport
+    ensures { λ r. ⌜ r .verdict ≡ verdict ⌝ }
+    ensures { λ r. ⌜ r .host ≡ 0 ⌝ }
+{
+    BlockReport { verdict, host: 0 }
+}
+
 // B5 to B7 of entry `e`, after the entries before it. Supervisor 0 is a board host. Of an unused entry the
 // supervisor is not looked at.
-fn check_pair(board: &BoardMemory, bytes: &[u8], e: u8) -> Verdict
-    ensures { λ r. ⌜ r ≡ firstOf Accepted (pairTable (boardIn (now (board .entry))) (partsBefore 2 (now (bytes .entry)) e) (partAt 2 (now (bytes .entry)) e)) ⌝ }
+fn check_pair(board: &BoardMemory, bytes: &[u8], e: usize) -> Verdict
+    requires { ⌜ e < entryCount ⌝ }
+    ensures { λ r. ⌜ r
+        ≡ firstOf Accepted (pairTable (boardIn (now (board .entry)))
+        (partsBefore pairSize (now (bytes .entry)) e) (partAt pairSize (now (bytes .entry)) e)) ⌝ }
 {
-    let at = 4 + 2 * (e as usize);
+    let at = HEAD_BYTES + PAIR_BYTES * e;
     let host = byte_at(bytes, at);
     if host == 0 {
         return Verdict::Accepted;
@@ -37,7 +58,7 @@ fn check_pair(board: &BoardMemory, bytes: &[u8], e: u8) -> Verdict
     if !is_host(board, byte_at(bytes, at + 1) as u16) {
         return Verdict::B6;
     }
-    if named_before(bytes, 2, e, host) {
+    if named_before(bytes, PAIR_BYTES as u8, e as u8, host) {
         return Verdict::B7;
     }
     Verdict::Accepted
@@ -47,8 +68,8 @@ fn check_pair(board: &BoardMemory, bytes: &[u8], e: u8) -> Verdict
 fn check_pairs(board: &BoardMemory, bytes: &[u8]) -> Verdict
     ensures { λ r. ⌜ r ≡ firstOf Accepted (inTurn (pairTable (boardIn (now (board .entry)))) [] (pairs (now (bytes .entry)))) ⌝ }
 {
-    let mut e: u8 = 0;
-    while e < 32 {
+    let mut e: usize = 0;
+    while e < ENTRIES {
         match check_pair(board, bytes, e) {
             Verdict::Accepted => {}
             fault => return fault,
@@ -59,14 +80,14 @@ fn check_pairs(board: &BoardMemory, bytes: &[u8]) -> Verdict
 }
 
 // What a hierarchy comes to: the first fault, with B8 the first host in entry order that lies on a loop.
-pub fn judge(board: &BoardMemory, bytes: &[u8]) -> BlockReport
+pub fn judge_hierarchy(board: &BoardMemory, bytes: &[u8]) -> BlockReport
     ensures { λ r. ⌜ r .verdict ≡ firstOf Accepted (hierarchyTable (boardIn (now (board .entry))) (now (bytes .entry))) ⌝ }
     ensures { λ r. ⌜ r .host ≡ loopReported (r .verdict) (now (bytes .entry)) ⌝ }
 {
-    if u16_at(bytes, 0) != 0x8D27 {
+    if u16_at(bytes, MAGIC_PLACE) != HIERARCHY_MAGIC {
         return verdict_alone(Verdict::B3);
     }
-    if u16_at(bytes, 2) != 68 {
+    if u16_at(bytes, SIZE_PLACE) != HIERARCHY_BYTES as u16 {
         return verdict_alone(Verdict::B4);
     }
     match check_pairs(board, bytes) {

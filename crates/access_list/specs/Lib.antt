@@ -1,4 +1,2 @@
--- The steps of the judge of a list.
--- One entry of an access list and the entries before it.
-pub mod Judged
+-- One entry of a substructure, after the entries before it.
 pub mod Entries

@@ -10,8 +10,9 @@ use Rattle.rules.specs.declared.Verdict.the-variants.{Accepted, B8}
 use Rattle.rules.specs.Board.{Board}
 use Rattle.rules.specs.Description.{boardVerdict, descriptionIn, described}
 use Rattle.rules.specs.Verdict.{accepted}
+use Rattle.rules.specs.AccessList.{verdictOf}
 use Rattle.rules.specs.Hierarchy.{pairs, Ends, FirstOnLoop}
-use Rattle.rules.specs.Block.{hierarchyPart, reportedHost}
+use Rattle.rules.specs.Block.{hierarchyPart, blockVerdict, reportedHost}
 use Rattle.rules.specs.State.{Setup, State}
 use Rattle.rules.specs.Call.{Offer, board, list, block, verdictTo, taken, afterOffer, offer, next}
 use Rattle.rules.proofs.Tests.{decide, cond-true, cond-false}
@@ -21,10 +22,10 @@ use Rattle.board.proofs.Read.{board-back}
 use Rattle.board_setup.specs.Setup.{boardAfter}
 use Rattle.access.specs.Memory.{listedIn, entriesIn, someList, setupIn, keptSetup}
 use Rattle.access.proofs.Kept.{listed-some}
-use Rattle.call_offer.specs.Loaded.{accessAfter, accessAfterBlock}
-use Rattle.call_offer.proofs.Offers.{setup-after, setup-after-block}
+use Rattle.call_offer.specs.AccessAfter.{accessAfter, accessAfterBlock}
+use Rattle.call_offer.proofs.Offers.{read-kept, setup-after, setup-after-block}
 use Rattle.record.specs.Memory.{recordsIn, stateIn, kept}
-use Rattle.call_offer.specs.Calls.{BlockCall, BoardCall}
+use Rattle.call_offer.specs.Calls.{BlockCall, BoardCall, ListCall}
 
 -- ---- the offers
 
@@ -55,11 +56,6 @@ pub block-state : (b : Board) (a : List ℕ) (major minor : ℕ) (bytes records 
     → stateIn b (accessAfterBlock b a major minor bytes) records ≡ kept (next (stateIn b a records) (offer (block major minor bytes)))
 block-state b a major minor bytes records =
     offer-state b a (accessAfterBlock b a major minor bytes) records (block major minor bytes) (setup-after-block b a (recordsIn records) major minor bytes)
-
--- what is kept of a set-up that was read out of memory is that set-up
-read-kept : (b : Board) (a : List ℕ) → setupIn b a ≡ keptSetup (setupIn b a)
-unfolding setupIn keptSetup
-read-kept b a = ap (λ (x : Bool). record { board = b; source = someList x; entries = entriesIn a }) (sym (listed-some (listedIn a)))
 
 module _ (b : Board) (a bytes records : List ℕ) where
   board-told : verdictTo (stateIn b a records) (board bytes) ≡ boardVerdict (listedIn a) bytes
@@ -105,17 +101,40 @@ board-call m a bytes m′ read told left =
       state = λ records. ap (λ (l : List ℕ). stateIn (boardIn l) a records) after ∙ board-state m a bytes records;
     }
 
+-- what the code does with a list on board b, and with a block, which is told with a host
+module _ (m a bytes : List ℕ) {b : Board} (on : boardIn m ≡ b) where
+  pub list-call : {a′ : List ℕ} {v : Verdict} → v ≡ verdictOf b (listedIn a) bytes → a′ ≡ accessAfter b a bytes → ListCall m a bytes a′ v
+  list-call told left =
+      let after = left ∙ ap (λ (x : Board). accessAfter x a bytes) (sym on) in
+      record {
+        verdict = told ∙ ap (λ (x : Board). verdictOf x (listedIn a) bytes) (sym on);
+        access-after = after;
+        state = λ records. ap (λ (l : List ℕ). stateIn (boardIn m) l records) after ∙ list-state (boardIn m) a bytes records;
+      }
+
+  pub block-call : {a′ : List ℕ} {r : BlockReport} (major minor : ℕ) → r .verdict ≡ blockVerdict b (listedIn a) major minor bytes
+      → r .host ≡ reportedHost (r .verdict) bytes → a′ ≡ accessAfterBlock b a major minor bytes → BlockCall m a major minor bytes a′ r
+  block-call major minor told host left =
+      let told-here = told ∙ ap (λ (x : Board). blockVerdict x (listedIn a) major minor bytes) (sym on) in
+      let after = left ∙ ap (λ (x : Board). accessAfterBlock x a major minor bytes) (sym on) in
+      record {
+        verdict = told-here;
+        host = host ∙ ap (λ (v : Verdict). reportedHost v bytes) told-here;
+        access-after = after;
+        state = λ records. ap (λ (l : List ℕ). stateIn (boardIn m) l records) after ∙ block-state (boardIn m) a major minor bytes records;
+      }
+
 -- ---- what the block call tells
 
-module _ {b : Board} {a : List ℕ} {major minor : ℕ} {bytes a′ : List ℕ} {r : BlockReport} (call : BlockCall b a major minor bytes a′ r) where
+module _ {m a : List ℕ} {major minor : ℕ} {bytes a′ : List ℕ} {r : BlockReport} (call : BlockCall m a major minor bytes a′ r) where
   -- of a block that it accepts: from every host, following supervisors ends
   pub block-ends : r .verdict ≡ Accepted → (h : ℕ) → Ends (pairs (hierarchyPart bytes)) h
   unfolding accepted
-  block-ends good h = accepted-ends b (listedIn a) major minor bytes (ap accepted (sym (call .verdict) ∙ good)) h
+  block-ends good h = accepted-ends (boardIn m) (listedIn a) major minor bytes (ap accepted (sym (call .verdict) ∙ good)) h
 
   -- with B8 the host: the first in entry order that lies on a loop
   pub block-first : r .verdict ≡ B8 → FirstOnLoop (pairs (hierarchyPart bytes)) (r .host)
   block-first is =
       let told = sym (call .verdict) ∙ is in
       subst⁻¹ (FirstOnLoop (pairs (hierarchyPart bytes))) (call .host ∙ ap (λ (v : Verdict). reportedHost v bytes) told)
-      (B8-first b (listedIn a) major minor bytes told)
+      (B8-first (boardIn m) (listedIn a) major minor bytes told)

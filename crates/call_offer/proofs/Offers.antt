@@ -16,17 +16,18 @@ use Rattle.rules.proofs.Tests.{decide, cond-true, cond-false}
 use Rattle.access.specs.Memory.{listedIn, entriesIn, someList, setupIn, keptSetup}
 use Rattle.access.proofs.Kept.{listed-some}
 use Rattle.access.specs.InForce.{inForce}
-use Rattle.access.proofs.Words.{words-read}
-use Rattle.call_offer.specs.Loaded.{accessBy, accessAfter, accessAfterBlock}
+use Rattle.access.proofs.InForce.{words-read}
+use Rattle.call_offer.specs.AccessAfter.{accessBy, accessAfter, accessAfterBlock}
+
+-- what is kept of a set-up that was read out of memory is that set-up
+pub read-kept : (b : Board) (m : List ℕ) → setupIn b m ≡ keptSetup (setupIn b m)
+unfolding setupIn keptSetup
+read-kept b m = ap (λ (x : Bool). record { board = b; source = someList x; entries = entriesIn m }) (sym (listed-some (listedIn m)))
 
 -- the set-up after an offer of a list, alone or in a block, of a state with this memory
 module _ (b : Board) (m : List ℕ) (records : Records) where
   abbrev before : State
   before = record { setup = setupIn b m; records = records }
-
-  kept-setup : setupIn b m ≡ keptSetup (setupIn b m)
-  unfolding setupIn keptSetup
-  kept-setup = ap (λ (x : Bool). record { board = b; source = someList x; entries = entriesIn m }) (sym (listed-some (listedIn m)))
 
   in-force-setup : (bytes : List ℕ) → setupIn b (inForce b bytes) ≡ record { board = b; source = someList true; entries = entriesOf b bytes }
   unfolding setupIn listedIn
@@ -44,7 +45,7 @@ module _ (b : Board) (m : List ℕ) (records : Records) where
       ap (setupIn b) (cond-true _ _ ok) ∙ in-force-setup bytes ∙ takes
       ∙ ap (λ (s : State). keptSetup (s .setup)) (sym (cond-true (taken before o) before (same ∙ ok))))
       (λ no.
-      ap (setupIn b) (cond-false _ _ no) ∙ kept-setup
+      ap (setupIn b) (cond-false _ _ no) ∙ read-kept b m
       ∙ ap (λ (s : State). keptSetup (s .setup)) (sym (cond-false (taken before o) before (same ∙ no))))
       (decide (accepted v))
 

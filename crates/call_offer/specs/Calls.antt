@@ -4,7 +4,6 @@ use mathlib.Core.Path.{_≡_}
 use mathlib.Core.List.{List}
 use Rattle.rules.specs.declared.BlockReport.{BlockReport}
 use Rattle.rules.specs.declared.Verdict.{Verdict}
-use Rattle.rules.specs.Board.{Board}
 use Rattle.rules.specs.Description.{boardVerdict}
 use Rattle.rules.specs.AccessList.{verdictOf}
 use Rattle.rules.specs.Block.{blockVerdict, reportedHost}
@@ -12,7 +11,7 @@ use Rattle.rules.specs.Call.{board, list, block, offer, next}
 use Rattle.board.specs.Memory.{boardIn}
 use Rattle.board_setup.specs.Setup.{boardAfter}
 use Rattle.access.specs.Memory.{listedIn}
-use Rattle.call_offer.specs.Loaded.{accessAfter, accessAfterBlock}
+use Rattle.call_offer.specs.AccessAfter.{accessAfter, accessAfterBlock}
 use Rattle.record.specs.Memory.{stateIn, kept}
 
 -- for any content of the board memory and of the access memory, and any description: the verdict and the board memory afterwards are what the
@@ -23,18 +22,19 @@ pub record BoardCall (memory access bytes memory′ : List ℕ) (r : Verdict) : 
   pub state :
       (records : List ℕ) → stateIn (boardIn memory′) access records ≡ kept (next (stateIn (boardIn memory) access records) (offer (board bytes)))
 
--- on any board, for any content of the access memory, and any list: the verdict and the memory afterwards are what the rules give; read with
--- any records, that memory holds what is kept of the rules' next state
-pub record ListCall (b : Board) (access bytes access′ : List ℕ) (r : Verdict) : Type 0 where
-  pub verdict : r ≡ verdictOf b (listedIn access) bytes
-  pub memory : access′ ≡ accessAfter b access bytes
-  pub state : (records : List ℕ) → stateIn b access′ records ≡ kept (next (stateIn b access records) (offer (list bytes)))
-
--- on any board, for any content of the access memory, any two ABI bytes and any block: the verdict, the host that is reported and the memory
--- afterwards are what the rules give; read with any records, that memory holds what is kept of the rules' next state
-pub record BlockCall (b : Board) (access : List ℕ) (major minor : ℕ) (bytes access′ : List ℕ) (r : BlockReport) : Type 0 where
-  pub verdict : r .verdict ≡ blockVerdict b (listedIn access) major minor bytes
-  pub host : r .host ≡ reportedHost (blockVerdict b (listedIn access) major minor bytes) bytes
-  pub memory : access′ ≡ accessAfterBlock b access major minor bytes
+-- and any list: the verdict and the access memory afterwards are what the rules give on that board; read with any records, the memories hold what is
+-- kept of the rules' next state
+pub record ListCall (memory access bytes access′ : List ℕ) (r : Verdict) : Type 0 where
+  pub verdict : r ≡ verdictOf (boardIn memory) (listedIn access) bytes
+  pub access-after : access′ ≡ accessAfter (boardIn memory) access bytes
   pub state :
-      (records : List ℕ) → stateIn b access′ records ≡ kept (next (stateIn b access records) (offer (block major minor bytes)))
+      (records : List ℕ) → stateIn (boardIn memory) access′ records ≡ kept (next (stateIn (boardIn memory) access records) (offer (list bytes)))
+
+-- and any two ABI bytes and any block: in the same way, with the host that is reported
+pub record BlockCall (memory access : List ℕ) (major minor : ℕ) (bytes access′ : List ℕ) (r : BlockReport) : Type 0 where
+  pub verdict : r .verdict ≡ blockVerdict (boardIn memory) (listedIn access) major minor bytes
+  pub host : r .host ≡ reportedHost (blockVerdict (boardIn memory) (listedIn access) major minor bytes) bytes
+  pub access-after : access′ ≡ accessAfterBlock (boardIn memory) access major minor bytes
+  pub state :
+      (records : List ℕ)
+      → stateIn (boardIn memory) access′ records ≡ kept (next (stateIn (boardIn memory) access records) (offer (block major minor bytes)))

@@ -1,4 +1,3 @@
--- What the offers promise.
--- What the list call leaves in the access memory.
+-- What the offers promise, and the access memory that they leave.
 pub mod Calls
-pub mod Loaded
+pub mod AccessAfter

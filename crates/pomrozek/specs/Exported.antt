@@ -9,7 +9,6 @@ use Rattle.rules.specs.Verdict.{verdictNumber}
 use Rattle.rules.specs.Role.{roleNumber}
 use Rattle.rules.specs.Outcome.{outcomeNumber}
 use Rattle.rules.specs.Call.{Lent}
-use Rattle.board.specs.Memory.{boardIn}
 use Rattle.record.specs.Memory.{Memories}
 use Rattle.call_offer.specs.Calls.{BlockCall, BoardCall, ListCall}
 use Rattle.call_message.specs.Calls.{MessageCall}
@@ -21,13 +20,13 @@ pub record ExportedBoard (board access bytes board′ : List ℕ) (r : ℕ) : Ty
 
 pub record ExportedList (board access bytes access′ : List ℕ) (r : ℕ) : Type 0 where
   pub told : Verdict
-  pub meets : ListCall (boardIn board) access bytes access′ told
+  pub meets : ListCall board access bytes access′ told
   pub number : r ≡ verdictNumber told
 
 -- the loop word is the host of B8, and 0 with any other verdict
 pub record ExportedBlock (board access : List ℕ) (major minor : ℕ) (bytes access′ loop′ : List ℕ) (r : ℕ) : Type 0 where
   pub told : BlockReport
-  pub meets : BlockCall (boardIn board) access major minor bytes access′ told
+  pub meets : BlockCall board access major minor bytes access′ told
   pub number : r ≡ verdictNumber (told .verdict)
   pub host : loop′ ≡ told .host ∷ []
 

@@ -11,7 +11,7 @@ use Rattle.rules.specs.AccessList.{verdictOf}
 use Rattle.rules.specs.Block.{blockVerdict, reportedHost}
 use Rattle.access.specs.Memory.{listedIn}
 use Rattle.board_setup.specs.Setup.{boardAfter}
-use Rattle.call_offer.specs.Loaded.{accessAfter, accessAfterBlock}
+use Rattle.call_offer.specs.AccessAfter.{accessAfter, accessAfterBlock}
 use Rattle.recording_texts.specs.Texts.{hasRoom, printed, Printed}
 use Rattle.recording_lines.specs.Offers.{offerLine, listWord, blockWord, boardWord}
 

@@ -10,7 +10,7 @@ use Rattle.rules.specs.declared.Verdict.the-variants.{Accepted, A1, A2, 
 use Rattle.rules.specs.Table.{Line, _gives_, firstOf, anyOf}
 use Rattle.rules.specs.Bytes.{u16At}
 use Rattle.rules.specs.Board.{Board, boardHost, activeHost, rows, rowOf, onBoard}
-use Rattle.rules.specs.Substructure.{magicIn, sizeIn, partsFrom, numberIn, used, namedIn, inTurn}
+use Rattle.rules.specs.Substructure.{entryCount, magicIn, sizeIn, partsFrom, numberIn, used, namedIn, inTurn}
 
 -- what an entry says of its processor: the recovery master and three secondaries. A7 keeps master 0 out of a list, so master 0 stands
 -- for no entry
@@ -25,9 +25,15 @@ noEntry = record { master = 0; first = 0; second = 0; third = 0 }
 
 -- ---- the list's parts
 
+abbrev pub listSize : ℕ
+listSize = 292
+
+abbrev pub entrySize : ℕ
+entrySize = 9
+
 -- each entry as its own nine-byte part of the list
 abbrev pub parts : List ℕ → List (List ℕ)
-parts list = partsFrom 9 list 0 32
+parts list = partsFrom entrySize list 0 entryCount
 
 abbrev pub processorIn : List ℕ → ℕ
 processorIn part = numberIn part
@@ -35,8 +41,17 @@ processorIn part = numberIn part
 abbrev pub masterIn : List ℕ → ℕ
 masterIn part = u16At part 1
 
+abbrev pub firstIn : List ℕ → ℕ
+firstIn part = u16At part 3
+
+abbrev pub secondIn : List ℕ → ℕ
+secondIn part = u16At part 5
+
+abbrev pub thirdIn : List ℕ → ℕ
+thirdIn part = u16At part 7
+
 abbrev pub secondariesIn : List ℕ → List ℕ
-secondariesIn part = u16At part 3 ∷ u16At part 5 ∷ u16At part 7 ∷ []
+secondariesIn part = firstIn part ∷ secondIn part ∷ thirdIn part ∷ []
 
 -- ---- why a list is refused
 
@@ -57,12 +72,12 @@ entryTable b earlier part =
 unfoldable pub contentTable : Board → List ℕ → List (Line Verdict)
 contentTable b list =
     (not (eqb (magicIn list) 0xF1EA) gives A3)
-    ∷ (not (eqb (sizeIn list) 292) gives A4)
+    ∷ (not (eqb (sizeIn list) listSize) gives A4)
     ∷ inTurn (entryTable b) [] (parts list)
 
 -- A1, where a list or a block was accepted, and A2 come first
 unfoldable pub listTable : Board → Bool → List ℕ → List (Line Verdict)
-listTable b listed list = (listed gives A1) ∷ (not (eqb (length list) 292) gives A2) ∷ contentTable b list
+listTable b listed list = (listed gives A1) ∷ (not (eqb (length list) listSize) gives A2) ∷ contentTable b list
 
 -- the first fault is reported
 unfoldable pub verdictOf : Board → Bool → List ℕ → Verdict
@@ -72,7 +87,7 @@ verdictOf b listed list = firstOf Accepted (listTable b listed list)
 
 unfoldable pub entryIn : List ℕ → Entry
 entryIn part =
-    record { master = masterIn part; first = u16At part 3; second = u16At part 5; third = u16At part 7 }
+    record { master = masterIn part; first = firstIn part; second = secondIn part; third = thirdIn part }
 
 -- a used entry is put at its processor's row
 unfoldable pub withPart : Board → List ℕ → List Entry → List Entry

@@ -12,12 +12,18 @@ use Rattle.rules.specs.Verdict.{verdictNumber}
 use Rattle.rules.specs.Table.{Line, _gives_, placeOf}
 use Rattle.rules.specs.Bytes.{byteAt}
 use Rattle.rules.specs.Board.{Board, boardHost}
-use Rattle.rules.specs.Substructure.{magicIn, sizeIn, partsFrom, numberIn, used, names, namedIn, inTurn}
+use Rattle.rules.specs.Substructure.{entryCount, magicIn, sizeIn, partsFrom, numberIn, used, names, namedIn, inTurn}
 
 -- ---- the hierarchy's entries
 
+abbrev pub hierarchySize : ℕ
+hierarchySize = 68
+
+abbrev pub pairSize : ℕ
+pairSize = 2
+
 abbrev pub pairs : List ℕ → List (List ℕ)
-pairs bytes = partsFrom 2 bytes 0 32
+pairs bytes = partsFrom pairSize bytes 0 entryCount
 
 abbrev pub hostIn : List ℕ → ℕ
 hostIn pair = numberIn pair
@@ -64,7 +70,7 @@ pairTable b earlier pair =
 unfoldable pub hierarchyTable : Board → List ℕ → List (Line Verdict)
 hierarchyTable b bytes =
     (not (eqb (magicIn bytes) 0x8D27) gives B3)
-    ∷ (not (eqb (sizeIn bytes) 68) gives B4)
+    ∷ (not (eqb (sizeIn bytes) hierarchySize) gives B4)
     ∷ (inTurn (pairTable b) [] (pairs bytes) ++ ((not (eqb (loopHost (pairs bytes)) 0) gives B8) ∷ []))
 
 -- with B8 the host is reported, with any other verdict none, which is 0

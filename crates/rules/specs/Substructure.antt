@@ -10,6 +10,13 @@ use Rattle.rules.specs.declared.Verdict.{Verdict}
 use Rattle.rules.specs.Table.{Line, anyOf}
 use Rattle.rules.specs.Bytes.{byteAt, u16At}
 
+-- the magic and the size have two bytes each; behind them come the entries
+abbrev pub headSize : ℕ
+headSize = 4
+
+abbrev pub entryCount : ℕ
+entryCount = 32
+
 abbrev pub magicIn : List ℕ → ℕ
 magicIn bytes = u16At bytes 0
 
@@ -18,7 +25,7 @@ sizeIn bytes = u16At bytes 2
 
 -- entry e as its own part, of so many bytes
 abbrev pub partAt : ℕ → List ℕ → ℕ → List ℕ
-partAt width bytes e = take width (drop (4 + width * e) bytes)
+partAt width bytes e = take width (drop (headSize + width * e) bytes)
 
 -- the first n parts of so many bytes each
 unfoldable pub partsOf : ℕ → List ℕ → ℕ → List (List ℕ)
@@ -27,7 +34,7 @@ partsOf width bytes (suc n) = take width bytes ∷ partsOf width (drop width byt
 
 -- n parts from entry e on
 abbrev pub partsFrom : ℕ → List ℕ → ℕ → ℕ → List (List ℕ)
-partsFrom width bytes e n = partsOf width (drop (4 + width * e) bytes) n
+partsFrom width bytes e n = partsOf width (drop (headSize + width * e) bytes) n
 
 abbrev pub numberIn : List ℕ → ℕ
 numberIn part = byteAt part 0

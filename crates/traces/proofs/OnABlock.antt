@@ -1,13 +1,13 @@
 -- The theorem about the code holds of a block: the block call takes the bench list in a block over memories of zeros, and leaves the memories that the
 -- lone list would.
-use mathlib.Core.Path.{_≡_, refl, subst⁻¹}
+use mathlib.Core.Path.{_≡_, refl}
 use mathlib.Core.List.{[]}
 use lib.ListN.{replicate}
 use Rattle.rules.specs.declared.BlockReport.{BlockReport}
 use Rattle.rules.specs.declared.Verdict.the-variants.{Accepted}
 use Rattle.rules.specs.Table.{firstOf, anyOf, placeOf, tableOf}
 use Rattle.rules.specs.Verdict.{accepted}
-use Rattle.rules.specs.Board.{Board, boardHost, activeHost, rowOf, onBoard}
+use Rattle.rules.specs.Board.{boardHost, activeHost, rowOf, onBoard}
 use Rattle.rules.specs.Description.{ourDescription, listsProcessor, markIn, rowIn, classIn, sharedCluster, sharedIn, homeIn, boardOf, ours}
 use Rattle.rules.specs.Substructure.{partsOf, namedIn, inTurn}
 use Rattle.rules.specs.AccessList.{entryTable, contentTable, listTable, verdictOf}
@@ -16,11 +16,11 @@ use Rattle.rules.specs.Block.{otpTable, blockTable, blockVerdict}
 use Rattle.rules.specs.Bench.{benchList}
 use Rattle.rules.specs.BenchBlock.{benchBlock}
 use Rattle.access.specs.Memory.{listedIn}
-use Rattle.call_offer.specs.Loaded.{accessBy, accessAfter, accessAfterBlock}
+use Rattle.call_offer.specs.AccessAfter.{accessBy, accessAfter, accessAfterBlock}
 use Rattle.board.specs.Memory.{boardBytes}
 use Rattle.board_setup.proofs.Started.{start-read}
 use Rattle.call_offer.specs.Calls.{BlockCall}
-use Rattle.call_offer.proofs.EachCall.{block-state}
+use Rattle.call_offer.proofs.EachCall.{block-call}
 use Rattle.traces.specs.Trace.{Memories, started, blockStep, beforeOf, afterOf, Meets, done, step, Loads, Loaded}
 use Rattle.traces.proofs.OnTheBench.{listed-memories}
 
@@ -30,9 +30,9 @@ taken = record { verdict = Accepted; host = 0 }
 abbrev blocked-memories : Memories
 blocked-memories = record { board = boardBytes ours; access = accessAfterBlock ours (replicate 129 0) 0 1 benchBlock; records = replicate 288 0 }
 
-block-accepted : BlockCall ours (replicate 129 0) 0 1 benchBlock (accessAfterBlock ours (replicate 129 0) 0 1 benchBlock) taken
+block-accepted : BlockCall (boardBytes ours) (replicate 129 0) 0 1 benchBlock (accessAfterBlock ours (replicate 129 0) 0 1 benchBlock) taken
 unfolding tableOf ours ourDescription listsProcessor markIn rowIn classIn sharedCluster sharedIn homeIn boardOf firstOf anyOf boardHost activeHost placeOf rowOf onBoard partsOf namedIn entryTable inTurn contentTable supervisorOf meets onLoop firstHost loopHost pairTable hierarchyTable loopReported otpTable blockTable blockVerdict listedIn
-block-accepted = record { verdict = refl; host = refl; memory = refl; state = block-state ours (replicate 129 0) 0 1 benchBlock }
+block-accepted = block-call (boardBytes ours) (replicate 129 0) benchBlock start-read 0 1 refl refl refl
 
 -- the list that is in force is the bench list, and so the theorem for it speaks of these memories too
 pub block-loaded : Loaded ours benchList blocked-memories
@@ -43,7 +43,7 @@ block-loaded =
       last = blockStep 0 1 benchBlock started blocked-memories taken;
       trace =
           step {x = blockStep 0 1 benchBlock started blocked-memories taken} refl
-          (subst⁻¹ (λ (b : Board). BlockCall b (replicate 129 0) 0 1 benchBlock (accessAfterBlock ours (replicate 129 0) 0 1 benchBlock) taken) start-read block-accepted, refl, refl) done;
+          (block-accepted, refl, refl) done;
       takes = (refl, refl);
       left = refl;
       in-force = start-read;

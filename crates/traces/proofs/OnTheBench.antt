@@ -26,13 +26,13 @@ use Rattle.rules.specs.Bench.{benchList, header}
 use Rattle.rules.specs.BenchCluster.{clusterList}
 use Rattle.noninterference.specs.Statement.{clustersWhole}
 use Rattle.access.specs.Memory.{listedIn, entryAt, entriesIn, someList, setupIn}
-use Rattle.access.specs.InForce.{wordsOf}
-use Rattle.call_offer.specs.Loaded.{accessBy, accessAfter}
+use Rattle.access.specs.InForce.{entryWords}
+use Rattle.call_offer.specs.AccessAfter.{accessBy, accessAfter}
 use Rattle.record.specs.Memory.{recordsIn, stateIn}
 use Rattle.board.specs.Memory.{boardBytes}
 use Rattle.board_setup.proofs.Started.{start-read}
 use Rattle.call_offer.specs.Calls.{ListCall}
-use Rattle.call_offer.proofs.EachCall.{list-state}
+use Rattle.call_offer.proofs.EachCall.{list-call}
 use Rattle.call_message.specs.Calls.{lending, MessageCall}
 use Rattle.traces.specs.Trace.{Memories, started, Step, listStep, messageStep, beforeOf, afterOf, callOf, Meets, Trace, done, step, callsOf, Loads, Loaded}
 use Rattle.traces.specs.Statement.{CodeNoninterference}
@@ -47,9 +47,9 @@ bothR5 = 1 ∷ 2 ∷ []
 abbrev pub listed-memories : Memories
 listed-memories = record { board = boardBytes ours; access = accessAfter ours (replicate 129 0) benchList; records = replicate 288 0 }
 
-bench-accepted : ListCall ours (replicate 129 0) benchList (accessAfter ours (replicate 129 0) benchList) Accepted
+bench-accepted : ListCall (boardBytes ours) (replicate 129 0) benchList (accessAfter ours (replicate 129 0) benchList) Accepted
 unfolding tableOf ours ourDescription listsProcessor markIn rowIn classIn sharedCluster sharedIn homeIn boardOf firstOf anyOf boardHost activeHost placeOf rowOf onBoard partsOf namedIn entryTable inTurn contentTable listTable verdictOf listedIn
-bench-accepted = record { verdict = refl; memory = refl; state = list-state ours (replicate 129 0) benchList }
+bench-accepted = list-call (boardBytes ours) (replicate 129 0) benchList start-read refl refl
 
 pub bench-loaded : Loaded ours benchList listed-memories
 unfolding Meets beforeOf afterOf Loads
@@ -59,7 +59,7 @@ bench-loaded =
       last = listStep benchList started listed-memories Accepted;
       trace =
           step {x = listStep benchList started listed-memories Accepted} refl
-          (subst⁻¹ (λ (b : Board). ListCall b (replicate 129 0) benchList (accessAfter ours (replicate 129 0) benchList) Accepted) start-read bench-accepted, refl, refl) done;
+          (bench-accepted, refl, refl) done;
       takes = (refl, refl);
       left = refl;
       in-force = start-read;
@@ -82,7 +82,7 @@ request-step =
 
 bench-answered : MessageCall ours (accessAfter ours (replicate 129 0) benchList) (replicate 288 0) asked heldRecords (header 0x00 0xC0 3 2 ++ replicate 21 0xFF)
     (record { outcome = Ok; checks = 0; micros = 0; written = 8; role = Master })
-unfolding tableOf ours ourDescription listsProcessor markIn rowIn classIn sharedCluster sharedIn homeIn boardOf firstOf anyOf boardHost activeHost placeOf rowOf onBoard classAt classOf homeAt noEntry partsOf namedIn entryTable inTurn contentTable listTable verdictOf accepted entryIn withPart withParts noEntries entriesOf hasEntry namesHost roleTable roleOf permitted answerAsked kindOf waitIn subjectOf senderWrong wordsMissing waitFailed beforeType onType behindType admission byWords outcomeTable outcomeOf carriedOut silent countsFor oneMore tallyAfter talliesAfter recordAfter ackBytes bytesFor answerBytes answerOf waited tellsRole reportOf listed freeOwn noTallies entryOf recordIn recordOf viewOf putIn stored afterMessage answerTo next listedIn entryAt entriesIn someList setupIn wordsOf accessBy accessAfter recordsIn stateIn
+unfolding tableOf ours ourDescription listsProcessor markIn rowIn classIn sharedCluster sharedIn homeIn boardOf firstOf anyOf boardHost activeHost placeOf rowOf onBoard classAt classOf homeAt noEntry partsOf namedIn entryTable inTurn contentTable listTable verdictOf accepted entryIn withPart withParts noEntries entriesOf hasEntry namesHost roleTable roleOf permitted answerAsked kindOf waitIn subjectOf senderWrong wordsMissing waitFailed beforeType onType behindType admission byWords outcomeTable outcomeOf carriedOut silent countsFor oneMore tallyAfter talliesAfter recordAfter ackBytes bytesFor answerBytes answerOf waited tellsRole reportOf listed freeOwn noTallies entryOf recordIn recordOf viewOf putIn stored afterMessage answerTo next listedIn entryAt entriesIn someList setupIn entryWords accessBy accessAfter recordsIn stateIn
 bench-answered = record { report = refl; records = refl; buffer = refl }
 
 pub bench-trace : Trace listed-memories (request-step ∷ [])

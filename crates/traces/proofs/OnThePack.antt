@@ -1,14 +1,14 @@
 -- The theorem about the code is not empty on a described board: the board call takes a description over a fresh manager's memories, its board
 -- accepts a list, and the theorem applies.
 use Prim.Native.Nat.{ℕ}
-use mathlib.Core.Path.{_≡_, refl, subst⁻¹}
+use mathlib.Core.Path.{_≡_, refl}
 use mathlib.Core.Bool.{false}
 use mathlib.Core.List.{List, [], _∷_}
 use lib.ListN.{replicate}
 use Rattle.rules.specs.declared.Verdict.the-variants.{Accepted}
 use Rattle.rules.specs.Table.{firstOf, anyOf, allOf, placeOf, allFrom, tableOf}
 use Rattle.rules.specs.Verdict.{accepted}
-use Rattle.rules.specs.Board.{Board, boardHost, activeHost, rowOf, onBoard, homeAt, homeOf, shareControl}
+use Rattle.rules.specs.Board.{boardHost, activeHost, rowOf, onBoard, homeAt, homeOf, shareControl}
 use Rattle.rules.specs.Description.{nothingListed, bodySize, fieldGood, noItem, itemIn, fieldSize, itemsFrom, itemsIn, listsHost, listsProcessor, repeats, otherClass, isFull, itemTable, withItem, itemsTable, descriptionTable, boardVerdict, withItems, descriptionIn, markIn, rowIn, classIn, sharedCluster, sharedIn, homeIn, shareWord, boardOf, described, ours}
 use Rattle.rules.specs.Substructure.{partsOf, namedIn, inTurn}
 use Rattle.rules.specs.AccessList.{entryTable, contentTable, listTable, verdictOf}
@@ -18,9 +18,9 @@ use Rattle.board.specs.Memory.{boardIn, boardBytes}
 use Rattle.board.proofs.Read.{board-back}
 use Rattle.board_setup.specs.Setup.{boardAfter}
 use Rattle.access.specs.Memory.{listedIn}
-use Rattle.call_offer.specs.Loaded.{accessAfter}
+use Rattle.call_offer.specs.AccessAfter.{accessAfter}
 use Rattle.call_offer.specs.Calls.{BoardCall, ListCall}
-use Rattle.call_offer.proofs.EachCall.{board-call, list-state}
+use Rattle.call_offer.proofs.EachCall.{board-call, list-call}
 use Rattle.traces.specs.Trace.{Memories, started, boardStep, listStep, beforeOf, afterOf, Meets, done, step, Loads, Loaded}
 use Rattle.traces.specs.Statement.{CodeNoninterference}
 use Rattle.traces.proofs.Theorem.{of-the-code}
@@ -45,9 +45,9 @@ unfolding described
 pack-back = board-back (descriptionIn packBytes)
 
 -- the list call on its board
-list-taken : ListCall (described packBytes) zeros packList (accessAfter (described packBytes) zeros packList) Accepted
+list-taken : ListCall (boardBytes (described packBytes)) zeros packList (accessAfter (described packBytes) zeros packList) Accepted
 unfolding firstOf anyOf allOf placeOf tableOf nothingListed bodySize fieldGood noItem itemIn fieldSize itemsFrom itemsIn listsHost listsProcessor repeats otherClass isFull itemTable withItem itemsTable descriptionTable boardVerdict withItems descriptionIn markIn rowIn classIn sharedCluster sharedIn homeIn shareWord boardOf described boardHost activeHost rowOf onBoard partsOf namedIn entryTable inTurn contentTable listTable verdictOf listedIn
-list-taken = record { verdict = refl; memory = refl; state = list-state (described packBytes) zeros packList }
+list-taken = list-call (boardBytes (described packBytes)) zeros packList pack-back refl refl
 
 pub pack-loaded : Loaded (described packBytes) packList listed-memories
 unfolding Meets beforeOf afterOf Loads
@@ -58,7 +58,7 @@ pack-loaded =
       trace =
           step {x = boardStep packBytes started described-memories Accepted} refl (pack-taken, refl, refl)
           (step {x = listStep packList described-memories listed-memories Accepted} refl
-          (subst⁻¹ (λ (b : Board). ListCall b zeros packList (accessAfter (described packBytes) zeros packList) Accepted) pack-back list-taken, refl, refl) done);
+          (list-taken, refl, refl) done);
       takes = (refl, refl);
       left = refl;
       in-force = pack-back;

@@ -46,11 +46,11 @@ module _ (s : State) (before after : Memories) (holds : Holds before s) where
   access-holds o same records left =
       offer-holds o (ap₂ (λ (l m : List ℕ). stateIn (boardIn l) (after .access) m) same records ∙ left)
 
-  list-holds : (bytes : List ℕ) {v : _} → ListCall (boardIn (before .board)) (before .access) bytes (after .access) v
+  list-holds : (bytes : List ℕ) {v : _} → ListCall (before .board) (before .access) bytes (after .access) v
       → after .board ≡ before .board → after .records ≡ before .records → Holds after (next s (offer (list bytes)))
   list-holds bytes meets same records = access-holds (list bytes) same records (meets .state (before .records))
 
-  block-holds : (major minor : ℕ) (bytes : List ℕ) {r : _} → BlockCall (boardIn (before .board)) (before .access) major minor bytes (after .access) r
+  block-holds : (major minor : ℕ) (bytes : List ℕ) {r : _} → BlockCall (before .board) (before .access) major minor bytes (after .access) r
       → after .board ≡ before .board → after .records ≡ before .records → Holds after (next s (offer (block major minor bytes)))
   block-holds major minor bytes meets same records = access-holds (block major minor bytes) same records (meets .state (before .records))
 

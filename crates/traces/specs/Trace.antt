@@ -56,10 +56,10 @@ unfoldable pub Meets : Step → Type 0
 Meets (boardStep bytes before after verdict) =
     BoardCall (before .board) (before .access) bytes (after .board) verdict × (after .access ≡ before .access) × (after .records ≡ before .records)
 Meets (listStep bytes before after verdict) =
-    ListCall (boardIn (before .board)) (before .access) bytes (after .access) verdict
+    ListCall (before .board) (before .access) bytes (after .access) verdict
     × (after .board ≡ before .board) × (after .records ≡ before .records)
 Meets (blockStep major minor bytes before after report) =
-    BlockCall (boardIn (before .board)) (before .access) major minor bytes (after .access) report
+    BlockCall (before .board) (before .access) major minor bytes (after .access) report
     × (after .board ≡ before .board) × (after .records ≡ before .records)
 Meets (messageStep lent before after report held) =
     MessageCall (boardIn (before .board)) (before .access) (before .records) lent (after .records) held report

@@ -1,31 +1,34 @@
 -- `access_block::check_otp` meets its contract: each return is a line of the table, after those above it.
-use mathlib.Core.Path.{sym, _∙_}
-use borrow.Author.Tests.{eq-eqb, ne-eqb}
+use mathlib.Core.Path.{sym}
+use mathlib.Core.List.{[]}
+use denote.Ref.{now}
+use Rattle.rules.specs.declared.Verdict.the-variants.{B9, B10}
 use Rattle.rules.specs.Table.{firstOf}
 use Rattle.rules.specs.Block.{otpTable}
+use Rattle.access_list.proofs.Substructure.{bad-magic, bad-size, past-head}
 use borrow.Author.Needs.{needs}
 use Rattle.access_block.proofs.check_otp.Statement.{statement}
 use Rattle.access_block.proofs.check_otp.Tie as tie
 
 returns : tie.Need-returns
-unfolding otpTable firstOf
-returns c = rw (ne-eqb _ 0x4081 (λ e. c .if1 .taken (c .before .u16-at .ensures ∙ e)))
+unfolding otpTable
+returns c =
+    let bytes = now (c .before .before .before .args .bytes) in
+    sym (bad-magic 0x4081 B9 69 B10 bytes [] (c .before .u16-at .ensures) (c .if1 .taken))
 
 returns-2 : tie.Need-returns-2
-unfolding otpTable firstOf
+unfolding otpTable
 returns-2 c =
-    rw (
-      eq-eqb _ 0x4081 (sym (c .before .before .before .u16-at .ensures) ∙ c .before .before .if1 .left),
-      ne-eqb _ 69 (λ e. c .if2 .taken (c .before .u16-at2 .ensures ∙ e)),
-    )
+    let head = c .before .before in
+    let bytes = now (head .before .before .before .args .bytes) in
+    sym (bad-size 0x4081 B9 69 B10 bytes [] (head .before .u16-at .ensures) (head .if1 .left) (c .before .u16-at2 .ensures) (c .if2 .taken))
 
 returns-3 : tie.Need-returns-3
 unfolding otpTable firstOf
 returns-3 c =
-    rw (
-      eq-eqb _ 0x4081 (sym (c .before .before .before .u16-at .ensures) ∙ c .before .before .if1 .left),
-      eq-eqb _ 69 (sym (c .before .u16-at2 .ensures) ∙ c .if2 .left),
-    )
+    let head = c .before .before in
+    let bytes = now (head .before .before .before .args .bytes) in
+    sym (past-head 0x4081 B9 69 B10 bytes [] (head .before .u16-at .ensures) (head .if1 .left) (c .before .u16-at2 .ensures) (c .if2 .left))
 
 pub check-otp-spec : {M : Type 1} → statement M
-check-otp-spec = tie.close (tie.spec (λ c κs. search needs) returns (λ c κs. search needs) returns-2 returns-3)
+check-otp-spec = tie.close (tie.spec (λ c κs. search needs) returns (λ c κs. search needs) (λ c. search needs) returns-2 returns-3)

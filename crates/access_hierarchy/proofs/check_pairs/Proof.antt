@@ -5,12 +5,12 @@ use mathlib.Core.List.{[]}
 use native.Mathlib.Omega.{arith}
 use Rattle.rules.specs.declared.Verdict.the-variants.{Accepted}
 use Rattle.rules.specs.Table.{firstOf}
-use Rattle.rules.specs.Substructure.{inTurn}
-use Rattle.rules.specs.Hierarchy.{pairs, pairTable}
+use Rattle.rules.specs.Substructure.{entryCount, inTurn}
+use Rattle.rules.specs.Hierarchy.{pairSize, pairs, pairTable}
 use Rattle.rules.proofs.Verdicts.{no-fault}
 use Rattle.board.specs.Memory.{boardIn}
-use Rattle.access_list.specs.Entries.{partsBefore, verdictFrom}
-use Rattle.access_list.proofs.Faults.{from-last}
+use Rattle.access_list.specs.Entries.{partsBefore}
+use Rattle.access_list.proofs.Substructure.{verdictFrom, from-last}
 use Rattle.access_hierarchy.proofs.Faults.{left-from, turn-bad, turn-good}
 use borrow.Author.Needs.{needs}
 use Rattle.access_hierarchy.proofs.check_pairs.Statement.{statement}
@@ -18,10 +18,10 @@ use Rattle.access_hierarchy.proofs.check_pairs.Tie as tie
 
 abbrev Inv-loop : tie.InvT-loop
 Inv-loop board bytes e₀ e =
-    (e ≤ 32) × (firstOf Accepted (inTurn (pairTable (boardIn board)) [] (pairs bytes)) ≡ left-from (boardIn board) bytes e)
+    (e ≤ entryCount) × (firstOf Accepted (inTurn (pairTable (boardIn board)) [] (pairs bytes)) ≡ left-from (boardIn board) bytes e)
 
 abbrev μ-loop : tie.MeasureT-loop
-μ-loop board bytes e₀ e = 32 - e
+μ-loop board bytes e₀ e = entryCount - e
 
 loop-holds : tie.Need-loop-holds Inv-loop μ-loop
 unfolding partsBefore verdictFrom
@@ -47,8 +47,8 @@ loop-again c =
 returns-2 : tie.Need-returns-2 Inv-loop μ-loop
 returns-2 c =
     let bytes = c .before .before .before .args .bytes .now in
-    let all : c .before .loop .e ≡ 32 = omega arith in
-    sym (c .before .loop .inv .1 ∙ from-last (pairTable _) 2 bytes (c .before .loop .e) all)
+    let all : c .before .loop .e ≡ entryCount = omega arith in
+    sym (c .before .loop .inv .1 ∙ from-last (pairTable _) pairSize bytes (c .before .loop .e) all)
 
 pub check-pairs-spec : {M : Type 1} → statement M
 check-pairs-spec =

@@ -1,21 +1,20 @@
 -- `access_hierarchy::fill` meets its contract. The loop's invariant: the table has the supervisors of the entries from e on.
-use Prim.Native.Nat.{_≤_, _-_}
-use Prim.Native.Nat.{ℕ}
+use Prim.Native.Nat.{ℕ, _≤_, _-_}
 use mathlib.Core.Path.{_≡_, ap, _∙_}
 use mathlib.Core.List.{List}
 use lib.ListN.{set}
 use native.Mathlib.Omega.{arith}
 use borrow.Author.Needs.{needs}
 use Rattle.rules.specs.Table.{tableOf}
-use Rattle.rules.specs.Substructure.{partsOf, partsFrom}
-use Rattle.rules.specs.Hierarchy.{supervisorOf}
-use Rattle.access_hierarchy.specs.Supervisors.{supervisorsIn}
+use Rattle.rules.specs.Substructure.{entryCount, partsOf, partsFrom}
+use Rattle.rules.specs.Hierarchy.{pairSize, supervisorOf}
+use Rattle.access_hierarchy.specs.Supervisors.{hostCount, supervisorsIn}
 use Rattle.access_hierarchy.proofs.Tables.{none-filled, fill-unused, fill-used}
 use Rattle.access_hierarchy.proofs.loops.fill.Statement.{statement}
 use Rattle.access_hierarchy.proofs.loops.fill.Tie as tie
 
 abbrev Inv-loop : tie.InvT-loop
-Inv-loop above₀ bytes e₀ above e = (e ≤ 32) × (above ≡ tableOf (supervisorOf (partsFrom 2 bytes e (32 - e))) 0 256)
+Inv-loop above₀ bytes e₀ above e = (e ≤ entryCount) × (above ≡ tableOf (supervisorOf (partsFrom pairSize bytes e (entryCount - e))) 0 hostCount)
 
 abbrev μ-loop : tie.MeasureT-loop
 μ-loop above₀ bytes e₀ above e = e
@@ -60,7 +59,6 @@ fill-spec =
     (λ c. search needs)
     (λ c. search needs)
     (λ c κs. search needs)
-    (λ c. search needs)
     (λ c. search needs)
     (λ c κs. search needs)
     (λ c. search needs)

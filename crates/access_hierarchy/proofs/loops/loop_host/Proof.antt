@@ -3,18 +3,18 @@ use Prim.Native.Nat.{_+_, _*_, _≤_, _-_}
 use mathlib.Core.Path.{_≡_, refl, sym, _∙_}
 use native.Mathlib.Omega.{arith}
 use borrow.Author.Needs.{needs}
-use Rattle.rules.specs.Substructure.{partsOf, partsFrom}
-use Rattle.rules.specs.Hierarchy.{pairs, onLoop, firstHost, loopHost}
+use Rattle.rules.specs.Substructure.{headSize, entryCount, partsOf, partsFrom}
+use Rattle.rules.specs.Hierarchy.{pairSize, pairs, onLoop, firstHost, loopHost}
 use Rattle.access_hierarchy.proofs.Tables.{on-loop-is, host-found, host-passed}
 use Rattle.access_hierarchy.proofs.loops.loop_host.Statement.{statement}
 use Rattle.access_hierarchy.proofs.loops.loop_host.Tie as tie
 
 abbrev Inv-loop : tie.InvT-loop
 Inv-loop bytes above e₀ e =
-    (e ≤ 32) × (loopHost (pairs bytes) ≡ firstHost (onLoop (pairs bytes)) (partsFrom 2 bytes e (32 - e)))
+    (e ≤ entryCount) × (loopHost (pairs bytes) ≡ firstHost (onLoop (pairs bytes)) (partsFrom pairSize bytes e (entryCount - e)))
 
 abbrev μ-loop : tie.MeasureT-loop
-μ-loop bytes above e₀ e = 32 - e
+μ-loop bytes above e₀ e = entryCount - e
 
 loop-holds : tie.Need-loop-holds Inv-loop μ-loop
 unfolding loopHost
@@ -27,7 +27,7 @@ returns c =
     let bytes = turn .before .before .before .before .args .bytes .now in
     let e = turn .loop .e in
     let at = c .before .before .before .byte-at .ensures in
-    let found = on-loop-is bytes (4 + 2 * e) (λ k. turn .before .before .before .shared-slice-known .given k .fits) (turn .before .fill .ensures) at (c .before .on-loop .ensures) in
+    let found = on-loop-is bytes (headSize + pairSize * e) (λ k. turn .before .before .before .shared-slice-known .given k .fits) (turn .before .fill .ensures) at (c .before .on-loop .ensures) in
     sym (turn .loop .inv .1 ∙ host-found bytes e (omega arith) at (sym found ∙ c .if1 .taken))
 
 loop-again : tie.Need-loop-again Inv-loop μ-loop
@@ -36,7 +36,7 @@ loop-again c =
     let bytes = turn .before .before .before .before .args .bytes .now in
     let e = turn .loop .e in
     let at = c .before .before .before .byte-at .ensures in
-    let found = on-loop-is bytes (4 + 2 * e) (λ k. turn .before .before .before .shared-slice-known .given k .fits) (turn .before .fill .ensures) at (c .before .on-loop .ensures) in (
+    let found = on-loop-is bytes (headSize + pairSize * e) (λ k. turn .before .before .before .shared-slice-known .given k .fits) (turn .before .fill .ensures) at (c .before .on-loop .ensures) in (
       omega arith,
       turn .loop .inv .1 ∙ host-passed bytes e (omega arith) at (sym found ∙ c .if1 .left),
     )
@@ -44,7 +44,7 @@ loop-again c =
 returns-2 : tie.Need-returns-2 Inv-loop μ-loop
 unfolding partsOf firstHost
 returns-2 c =
-    let all : c .before .loop .e ≡ 32 = omega arith in sym (c .before .loop .inv .1 ∙ rw all)
+    let all : c .before .loop .e ≡ entryCount = omega arith in sym (c .before .loop .inv .1 ∙ rw all)
 
 pub loop-host-spec : {M : Type 1} → statement M
 loop-host-spec =

@@ -3,15 +3,16 @@ use Prim.Native.Nat.{_<_, _≤_, _-_}
 use mathlib.Core.Path.{_≡_, refl, sym, _∙_}
 use native.Mathlib.Omega.{arith}
 use borrow.Author.Needs.{needs}
+use Rattle.rules.specs.Substructure.{entryCount}
 use Rattle.rules.specs.Hierarchy.{meets}
-use Rattle.access_hierarchy.specs.Supervisors.{readFrom}
+use Rattle.access_hierarchy.specs.Supervisors.{hostCount, readFrom}
 use Rattle.access_hierarchy.proofs.Tables.{meets-end, meets-here, meets-on}
 use Rattle.access_hierarchy.proofs.loops.on_loop.Statement.{statement}
 use Rattle.access_hierarchy.proofs.loops.on_loop.Tie as tie
 
 abbrev Inv-loop : tie.InvT-loop
 Inv-loop above host table x₀ left₀ x left =
-    (left ≤ 32) × (x < 256) × (meets (readFrom table) host 32 (readFrom table host) ≡ meets (readFrom table) host left x)
+    (left ≤ entryCount) × (x < hostCount) × (meets (readFrom table) host entryCount (readFrom table host) ≡ meets (readFrom table) host left x)
 
 abbrev μ-loop : tie.MeasureT-loop
 μ-loop above host table x₀ left₀ x left = left

@@ -14,7 +14,7 @@ returns-2 c =
     let line = now (c .before .before .before .before .before .before .before .before .before .args .line) in
     let call = c .before .before .before .before .offer-block in
     offer-played blockWord _ _ _ _ line _ _ (call .result .verdict) (call .result .host) _ (c .before .before .before .before .before .before .if1 .left)
-    (call .ensures .verdict) (call .ensures .host) (call .ensures .memory) (c .before .before .print-block .ensures)
+    (call .ensures .verdict) (call .ensures .host) (call .ensures .access-after) (c .before .before .print-block .ensures)
 
 pub block-line-spec : {M : Type 1} → statement M
 block-line-spec =

@@ -14,7 +14,7 @@ returns-2 : tie.Need-returns-2
 returns-2 c =
     let line = now (c .before .before .before .before .before .before .before .before .before .args .line) in
     let call = c .before .before .before .offer-list in
-    offer-played listWord _ 0 _ _ line _ _ (call .result) 0 _ (c .before .before .before .before .before .before .if1 .left) (call .ensures .verdict) refl (call .ensures .memory)
+    offer-played listWord _ 0 _ _ line _ _ (call .result) 0 _ (c .before .before .before .before .before .before .if1 .left) (call .ensures .verdict) refl (call .ensures .access-after)
     (c .before .before .print-list .ensures)
 
 pub list-line-spec : {M : Type 1} → statement M

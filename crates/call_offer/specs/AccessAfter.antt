@@ -1,4 +1,4 @@
--- The list call and the block call over the access memory of crate access: what an accepted list puts there, alone or in a block.
+-- The access memory after the list call and the block call: what an accepted list puts there, alone or in a block.
 use Prim.Native.Nat.{ℕ}
 use mathlib.Core.Bool.{cond}
 use mathlib.Core.List.{List}

@@ -1,25 +1,25 @@
 -- Laws of the access memory: stored entry by entry and read again it gives the entries of the rules.
 use Prim.Native.Nat.{ℕ, zero, suc, _+_, _*_, _<_, _≤_}
-use native.Mathlib.Nat.{add-zero}
+use native.Mathlib.Nat.{add-zero, add-assoc}
 use native.Mathlib.Numerals.{add-one, one-add, towards-suc}
 use native.Mathlib.Omega.{arith}
-use mathlib.Core.Path.{_≡_, refl, sym, ap, subst, _∙_}
+use mathlib.Core.Path.{_≡_, refl, sym, ap, ap₂, subst, _∙_}
 use mathlib.Core.Bool.{true, false}
-use mathlib.Core.List.{List, [], _∷_, _++_}
+use mathlib.Core.List.{List, [], _∷_}
 use mathlib.Core.Logic.{⊎-elim}
-use lib.ListN.{length, set, drop, replicate}
+use lib.ListN.{length, getD, set, replicate}
 use lib.Seq.{sets, set-out}
 use lib.Dec.{eqb, ltb}
 use borrow.Author.Tests.{eq-eqb, ne-eqb, lt-ltb, le-ltb, ltb-true, ltb-false}
 use Rattle.rules.specs.Table.{tableOf}
-use Rattle.rules.specs.Bytes.{u16At}
+use Rattle.rules.specs.Bytes.{byteAt, u16At}
 use Rattle.rules.specs.Board.{Board, rows, rowOf, onBoard}
-use Rattle.rules.specs.Substructure.{partAt, partsOf, partsFrom, used}
-use Rattle.rules.specs.AccessList.{Entry, noEntry, processorIn, masterIn, secondariesIn, entryIn, withPart, withParts, noEntries, entriesOf}
-use Rattle.rules.proofs.Tests.{decide, cond-true, cond-false}
-use Rattle.rules.proofs.Parts.{parts-step}
-use Rattle.access.specs.Memory.{entryPlace, entryAt, entriesIn}
-use Rattle.access.specs.InForce.{wordsOf, inForce, loadedFrom, putEntry, entriesBefore}
+use Rattle.rules.specs.Substructure.{headSize, entryCount, partAt, partsOf, partsFrom, used}
+use Rattle.rules.specs.AccessList.{Entry, noEntry, entrySize, processorIn, masterIn, secondariesIn, entryIn, withPart, withParts, noEntries, entriesOf}
+use Rattle.rules.proofs.Tests.{decide}
+use Rattle.rules.proofs.Parts.{parts-step, part-byte}
+use Rattle.access.specs.Memory.{entryPlace, accessSize, entryAt, entriesIn}
+use Rattle.access.specs.InForce.{entryWords, inForce, putEntry}
 
 -- n entries of four words each
 data Rows : ℕ → List Entry → Type 0 where
@@ -38,12 +38,12 @@ four-more i = omega arith
 -- four words stored at a row are an entry stored there
 put-words : {n : ℕ} {es : List Entry} → Rows n es → (i a b c d : ℕ)
     → i < n
-    → sets (wordsOf es) (4 * i) (a ∷ b ∷ c ∷ d ∷ []) ≡ wordsOf (set es i (record { master = a; first = b; second = c; third = d }))
-unfolding wordsOf
+    → sets (entryWords es) (4 * i) (a ∷ b ∷ c ∷ d ∷ []) ≡ entryWords (set es i (record { master = a; first = b; second = c; third = d }))
+unfolding entryWords
 put-words none i a b c d h = absurd (omega arith)
 put-words (row r) zero a b c d h = refl
 put-words (row {a = x} {b = y} {c = z} {d = w} {es = es} r) (suc i) a b c d h =
-    ap (λ (k : ℕ). sets (x ∷ y ∷ z ∷ w ∷ wordsOf es) k (a ∷ b ∷ c ∷ d ∷ [])) (four-more i)
+    ap (λ (k : ℕ). sets (x ∷ y ∷ z ∷ w ∷ entryWords es) k (a ∷ b ∷ c ∷ d ∷ [])) (four-more i)
     ∙ ap (λ (l : List ℕ). x ∷ y ∷ z ∷ w ∷ l) (put-words r i a b c d (omega arith))
 
 rows-set : {n : ℕ} {es : List Entry} → Rows n es → (i a b c d : ℕ)
@@ -58,7 +58,7 @@ rows-part {n} {es} b part r =
     ⊎-elim (λ u. rw u (rows-set r (rowOf b (processorIn part)) (masterIn part) _ _ _)) (λ u. rw u r) (decide (used part))
 
 -- an entry that is unused, or off the board, is stored nowhere, and any other at its row
-put-entry : {es : List Entry} (b : Board) (part : List ℕ) → Rows rows es → putEntry b part (1 ∷ wordsOf es) ≡ 1 ∷ wordsOf (withPart b part es)
+put-entry : {es : List Entry} (b : Board) (part : List ℕ) → Rows rows es → putEntry b part (1 ∷ entryWords es) ≡ 1 ∷ entryWords (withPart b part es)
 unfolding putEntry withPart onBoard entryIn
 put-entry {es} b part r =
     let i = rowOf b (processorIn part) in
@@ -67,24 +67,36 @@ put-entry {es} b part r =
     ⊎-elim
     (λ (on : ltb i rows ≡ true).
     rw (u, on)
-    (ap (λ (k : ℕ). sets (1 ∷ wordsOf es) k (masterIn part ∷ secondariesIn part)) (one-add (4 * i))
+    (ap (λ (k : ℕ). sets (1 ∷ entryWords es) k (masterIn part ∷ secondariesIn part)) (one-add (4 * i))
     ∙ ap (λ (l : List ℕ). 1 ∷ l) (put-words r i (masterIn part) _ _ _ (ltb-true i rows on))))
     (λ (off : ltb i rows ≡ false).
     let past = ltb-false i rows off in
     rw (u, off)
-    (ap (λ (l : List Entry). 1 ∷ wordsOf l) (sym (set-out es i _ (omega (arith, rows-length r))))))
+    (ap (λ (l : List Entry). 1 ∷ entryWords l) (sym (set-out es i _ (omega (arith, rows-length r))))))
     (decide (ltb i rows)))
     (λ (u : used part ≡ false). rw u)
     (decide (used part))
 
 -- the code's four stores, of what it has read
 four-stores : (m : List ℕ) {i j a b c d w x y z : ℕ} → i ≡ j → a ≡ w → b ≡ x → c ≡ y → d ≡ z
-    → set (set (set (set m (1 + 4 * i) a) (1 + 4 * i + 1) b) (1 + 4 * i + 2) c) (1 + 4 * i + 3) d
+    → set (set (set (set m (entryPlace i) a) (entryPlace i + 1) b) (entryPlace i + 2) c) (entryPlace i + 3) d
     ≡ sets m (entryPlace j) (w ∷ x ∷ y ∷ z ∷ [])
 four-stores m at first second third fourth = rw (at, first, second, third, fourth) (simp towards-suc)
 
--- what the code does with an entry whose processor it has read as p: an unused one is stored nowhere
-module _ (b : Board) (part m : List ℕ) {p : ℕ} (at : p ≡ processorIn part) where
+-- a number of an entry is one of the whole list
+part-u16 : (list : List ℕ) (e i : ℕ) → i + 1 < entrySize → u16At (partAt entrySize list e) i ≡ u16At list (headSize + entrySize * e + i)
+part-u16 list e i inside =
+    ap₂ (λ (low high : ℕ). low + 256 * high) (part-byte entrySize list e i (omega arith))
+    (part-byte entrySize list e (i + 1) inside ∙ ap (λ (k : ℕ). getD list k 0) (sym (add-assoc (headSize + entrySize * e) i 1)))
+
+-- what the code does with entry e, whose processor it has read as p: an unused one is stored nowhere
+module _ (b : Board) (list : List ℕ) (e : ℕ) (m : List ℕ) {p : ℕ} (read : p ≡ byteAt list (headSize + entrySize * e + 0)) where
+  abbrev part : List ℕ
+  part = partAt entrySize list e
+
+  at : p ≡ processorIn part
+  at = read ∙ sym (part-byte entrySize list e 0 (omega arith))
+
   pub put-unused : p ≡ 0 → m ≡ putEntry b part m
   unfolding putEntry
   put-unused unused = rw (eq-eqb (processorIn part) 0 (sym at ∙ unused))
@@ -97,18 +109,30 @@ module _ (b : Board) (part m : List ℕ) {p : ℕ} (at : p ≡ processorIn part)
     row-is : row ≡ rowOf b (processorIn part)
     row-is = here ∙ ap (rowOf b) at
 
+    -- a later secondary, read so many bytes behind the first
+    later : (k : ℕ) → 3 + k + 1 < entrySize → u16At list (headSize + entrySize * e + 3 + k) ≡ u16At part (3 + k)
+    later k inside = ap (u16At list) (add-assoc (headSize + entrySize * e) 3 k) ∙ sym (part-u16 list e (3 + k) inside)
+
     pub put-off : rows ≤ row → m ≡ putEntry b part m
     unfolding putEntry onBoard
     put-off past = rw (names, le-ltb (rowOf b (processorIn part)) rows (subst (λ (n : ℕ). rows ≤ n) row-is past))
 
-    pub put-on : row < rows → {w x y z : ℕ} → w ≡ masterIn part → x ≡ u16At part 3 → y ≡ u16At part 5 → z ≡ u16At part 7
-        → set (set (set (set m (1 + 4 * row) w) (1 + 4 * row + 1) x) (1 + 4 * row + 2) y) (1 + 4 * row + 3) z ≡ putEntry b part m
+    pub put-on : row < rows → {w x y z : ℕ}
+        → w ≡ u16At list (headSize + entrySize * e + 1) → x ≡ u16At list (headSize + entrySize * e + 3)
+        → y ≡ u16At list (headSize + entrySize * e + 3 + 2) → z ≡ u16At list (headSize + entrySize * e + 3 + 4)
+        → set (set (set (set m (entryPlace row) w) (entryPlace row + 1) x) (entryPlace row + 2) y) (entryPlace row + 3) z ≡ putEntry b part m
     unfolding putEntry onBoard
     put-on inside first second third fourth =
         rw (names, lt-ltb (rowOf b (processorIn part)) rows (subst (λ (n : ℕ). n < rows) row-is inside))
-        (four-stores m row-is first second third fourth)
+        (four-stores m row-is (first ∙ sym (part-u16 list e 1 (omega arith))) (second ∙ sym (part-u16 list e 3 (omega arith)))
+        (third ∙ later 2 (omega arith)) (fourth ∙ later 4 (omega arith)))
 
 -- ---- all parts
+
+-- the entries that the list's first e parts leave
+unfoldable pub entriesBefore : Board → List ℕ → ℕ → List Entry
+entriesBefore b list zero = noEntries
+entriesBefore b list (suc e) = withPart b (partAt entrySize list e) (entriesBefore b list e)
 
 rows-none : (n : ℕ) → Rows n (replicate n noEntry)
 unfolding noEntry
@@ -118,48 +142,39 @@ rows-none (suc n) = row (rows-none n)
 rows-before : (b : Board) (list : List ℕ) (e : ℕ) → Rows rows (entriesBefore b list e)
 unfolding entriesBefore noEntries
 rows-before b list zero = rows-none rows
-rows-before b list (suc e) = rows-part b (partAt 9 list e) (rows-before b list e)
+rows-before b list (suc e) = rows-part b (partAt entrySize list e) (rows-before b list e)
 
-from-before : (b : Board) (list : List ℕ) (e n : ℕ) → withParts b (partsFrom 9 list e n) (entriesBefore b list e) ≡ entriesBefore b list (e + n)
+from-before : (b : Board) (list : List ℕ) (e n : ℕ) → withParts b (partsFrom entrySize list e n) (entriesBefore b list e) ≡ entriesBefore b list (e + n)
 unfolding entriesBefore withParts partsOf
 from-before b list e zero = ap (entriesBefore b list) (sym (add-zero e))
 from-before b list e (suc n) =
     let more : suc e + n ≡ e + suc n = omega arith in
-    ap (λ (parts : List (List ℕ)). withParts b parts (entriesBefore b list e)) (parts-step 9 list e n)
+    ap (λ (parts : List (List ℕ)). withParts b parts (entriesBefore b list e)) (parts-step entrySize list e n)
     ∙ from-before b list (suc e) n
     ∙ ap (entriesBefore b list) more
 
-pub entries-all : (b : Board) (list : List ℕ) → entriesBefore b list 32 ≡ entriesOf b list
+entries-are : (b : Board) (list : List ℕ) → entriesBefore b list entryCount ≡ entriesOf b list
 unfolding entriesOf entriesBefore
-entries-all b list = sym (from-before b list 0 32)
+entries-are b list = sym (from-before b list 0 entryCount)
+
+pub entries-all : (b : Board) (list : List ℕ) → 1 ∷ entryWords (entriesBefore b list entryCount) ≡ inForce b list
+entries-all b list = ap (λ (es : List Entry). 1 ∷ entryWords es) (entries-are b list)
 
 rows-of : (b : Board) (list : List ℕ) → Rows rows (entriesOf b list)
-rows-of b list = subst (λ (es : List Entry). Rows rows es) (entries-all b list) (rows-before b list 32)
+rows-of b list = subst (λ (es : List Entry). Rows rows es) (entries-are b list) (rows-before b list entryCount)
 
 -- zeros and the mark are the words of no entries
-pub load-first : {m : List ℕ} {n : ℕ} (b : Board) (list : List ℕ) → m ≡ replicate n 0 → n ≡ 129 → set m 0 1 ≡ 1 ∷ wordsOf (entriesBefore b list 0)
-unfolding wordsOf entriesBefore noEntries noEntry
-load-first b list zeros whole = rw (zeros, whole)
+pub none-stored : (b : Board) (list : List ℕ) → set (replicate accessSize 0) 0 1 ≡ 1 ∷ entryWords (entriesBefore b list 0)
+unfolding entryWords entriesBefore noEntries noEntry
+none-stored b list = refl
 
 -- a turn of the store: the words of one more part
 pub put-next : (b : Board) (list : List ℕ) (e : ℕ)
-    → putEntry b (partAt 9 list e) (1 ∷ wordsOf (entriesBefore b list e)) ≡ 1 ∷ wordsOf (entriesBefore b list (e + 1))
+    → putEntry b (partAt entrySize list e) (1 ∷ entryWords (entriesBefore b list e)) ≡ 1 ∷ entryWords (entriesBefore b list (e + 1))
 unfolding entriesBefore
 put-next b list e =
-    put-entry b (partAt 9 list e) (rows-before b list e)
-    ∙ ap (λ (n : ℕ). 1 ∷ wordsOf (entriesBefore b list n)) (sym (add-one e))
-
--- ---- the length
-
-module _ (b : Board) (m list : List ℕ) where
-  -- one of another length is no list
-  pub not-loaded : (length list ≡ 292 → ⊥) → m ≡ loadedFrom b m list
-  unfolding loadedFrom
-  not-loaded other = sym (cond-false (inForce b list) m (ne-eqb (length list) 292 other))
-
-  pub loaded : length list ≡ 292 → loadedFrom b m list ≡ inForce b list
-  unfolding loadedFrom
-  loaded size = cond-true (inForce b list) m (eq-eqb (length list) 292 size)
+    put-entry b (partAt entrySize list e) (rows-before b list e)
+    ∙ ap (λ (n : ℕ). 1 ∷ entryWords (entriesBefore b list n)) (sym (add-one e))
 
 -- ---- read
 
@@ -174,30 +189,15 @@ entry-next : (v a b c d : ℕ) (m : List ℕ) (i : ℕ) → entryAt (v ∷ a ∷
 unfolding entryAt
 entry-next v a b c d m i = simp (four-more, one-add, towards-suc)
 
-read-words : {n : ℕ} {es : List Entry} (v : ℕ) → Rows n es → tableOf (entryAt (v ∷ wordsOf es)) 0 n ≡ es
-unfolding tableOf wordsOf entryAt
+read-words : {n : ℕ} {es : List Entry} (v : ℕ) → Rows n es → tableOf (entryAt (v ∷ entryWords es)) 0 n ≡ es
+unfolding tableOf entryWords entryAt
 read-words v none = refl
 read-words v (row {n = n} {a = a} {b = b} {c = c} {d = d} {es = es} r) =
     ap (λ (l : List Entry). record { master = a; first = b; second = c; third = d } ∷ l)
-    (table-next (entryAt (v ∷ a ∷ b ∷ c ∷ d ∷ wordsOf es)) (entryAt (v ∷ wordsOf es)) (entry-next v a b c d (wordsOf es)) 0 n
+    (table-next (entryAt (v ∷ a ∷ b ∷ c ∷ d ∷ entryWords es)) (entryAt (v ∷ entryWords es)) (entry-next v a b c d (entryWords es)) 0 n
     ∙ read-words v r)
 
 -- the memory that an accepted list leaves says its entries
-pub words-read : (b : Board) (list : List ℕ) → entriesIn (1 ∷ wordsOf (entriesOf b list)) ≡ entriesOf b list
+pub words-read : (b : Board) (list : List ℕ) → entriesIn (1 ∷ entryWords (entriesOf b list)) ≡ entriesOf b list
 unfolding entriesIn
 words-read b list = read-words 1 (rows-of b list)
-
--- ---- cleared
-
-clear-suc : (m : List ℕ) (i : ℕ) → i < length m → set (replicate i 0 ++ drop i m) i 0 ≡ replicate (suc i) 0 ++ drop (suc i) m
-clear-suc [] i h = absurd (omega arith)
-clear-suc (x ∷ m) zero h = refl
-clear-suc (x ∷ m) (suc i) h = ap (λ (l : List ℕ). 0 ∷ l) (clear-suc m i (omega arith))
-
--- a turn's store takes i zeros to i + 1
-pub clear-next : (m : List ℕ) (i : ℕ) → i < length m → set (replicate i 0 ++ drop i m) i 0 ≡ replicate (i + 1) 0 ++ drop (i + 1) m
-clear-next m i h = clear-suc m i h ∙ ap (λ (n : ℕ). replicate n 0 ++ drop n m) (sym (add-one i))
-
-pub clear-all : (m : List ℕ) → replicate (length m) 0 ++ drop (length m) m ≡ replicate (length m) 0
-clear-all [] = refl
-clear-all (x ∷ m) = ap (λ (l : List ℕ). 0 ∷ l) (clear-all m)
