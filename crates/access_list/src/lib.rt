@@ -65,11 +65,8 @@ pub fn judge_list(board: &BoardMemory, listed: bool, list: &[u8]) -> Verdict
             e += 1;
             continue 'entries;
         }
-        match check_entry(
-            board,
-            part,
-            named_before(list, ENTRY_BYTES as u8, e as u8, processor),
-        ) {
+        let named = named_before(list, ENTRY_BYTES as u8, e as u8, processor);
+        match check_entry(board, part, named) {
             Verdict::Accepted => {}
             fault => break 'entries fault,
         }

@@ -22,15 +22,15 @@ pub record BoardCall (memory access bytes memory′ : List ℕ) (r : Verdict) : 
   pub state :
       (records : List ℕ) → stateIn (boardIn memory′) access records ≡ kept (next (stateIn (boardIn memory) access records) (offer (board bytes)))
 
--- and any list: the verdict and the access memory afterwards are what the rules give on that board; read with any records, the memories hold what is
--- kept of the rules' next state
+-- and for any list: the verdict and the access memory afterwards are what the rules give on the board that the memory holds; read with any records,
+-- the memories hold what is kept of the rules' next state
 pub record ListCall (memory access bytes access′ : List ℕ) (r : Verdict) : Type 0 where
   pub verdict : r ≡ verdictOf (boardIn memory) (listedIn access) bytes
   pub access-after : access′ ≡ accessAfter (boardIn memory) access bytes
   pub state :
       (records : List ℕ) → stateIn (boardIn memory) access′ records ≡ kept (next (stateIn (boardIn memory) access records) (offer (list bytes)))
 
--- and any two ABI bytes and any block: in the same way, with the host that is reported
+-- the same for any two ABI bytes and any block, with the host that is reported
 pub record BlockCall (memory access : List ℕ) (major minor : ℕ) (bytes access′ : List ℕ) (r : BlockReport) : Type 0 where
   pub verdict : r .verdict ≡ blockVerdict (boardIn memory) (listedIn access) major minor bytes
   pub host : r .host ≡ reportedHost (blockVerdict (boardIn memory) (listedIn access) major minor bytes) bytes

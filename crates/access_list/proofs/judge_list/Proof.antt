@@ -25,10 +25,10 @@ use Rattle.access_list.proofs.judge_list.Statement.{statement}
 use Rattle.access_list.proofs.judge_list.Tie as tie
 
 abbrev Inv-loop : tie.InvT-loop
-Inv-loop board listed list e part processor k₀ k = (k ≤ 3) × (badFrom (boardIn board) part 0 ≡ badFrom (boardIn board) part k)
+Inv-loop board listed list e part processor named k₀ k = (k ≤ 3) × (badFrom (boardIn board) part 0 ≡ badFrom (boardIn board) part k)
 
 abbrev μ-loop : tie.MeasureT-loop
-μ-loop board listed list e part processor k₀ k = 3 - k
+μ-loop board listed list e part processor named k₀ k = 3 - k
 
 abbrev Inv-entries : tie.InvT-entries
 Inv-entries board listed list e₀ e = (e ≤ 32) × (verdictOf (boardIn board) listed list ≡ verdictFrom (entryTable (boardIn board)) 9 list e)
