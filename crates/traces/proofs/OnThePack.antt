@@ -17,23 +17,24 @@ use Rattle.noninterference.specs.Statement.{clustersWhole}
 use Rattle.board.specs.Memory.{boardIn, boardBytes}
 use Rattle.board.proofs.Read.{board-back}
 use Rattle.board_setup.specs.Setup.{boardAfter}
-use Rattle.access.specs.Memory.{listedIn}
+use Rattle.access.specs.Memory.{accessSize, listedIn}
 use Rattle.call_offer.specs.AccessAfter.{accessAfter}
 use Rattle.call_offer.specs.Calls.{BoardCall, ListCall}
 use Rattle.call_offer.proofs.EachCall.{board-call, list-call}
-use Rattle.traces.specs.Trace.{Memories, started, boardStep, listStep, beforeOf, afterOf, Meets, done, step, Loads, Loaded}
+use Rattle.record.specs.Memory.{recordSize, Memories, memories}
+use Rattle.traces.specs.Trace.{started, boardStep, listStep, beforeOf, afterOf, Meets, done, step, Loads, Loaded}
 use Rattle.traces.specs.Statement.{CodeNoninterference}
 use Rattle.traces.proofs.Theorem.{of-the-code}
 
 abbrev zeros : List ℕ
-zeros = replicate 129 0
+zeros = replicate accessSize 0
 
 abbrev described-memories : Memories
-described-memories = record { board = boardBytes (described packBytes); access = zeros; records = replicate 288 0 }
+described-memories = record { board = boardBytes (described packBytes); access = zeros; records = replicate recordSize 0 }
 
 abbrev listed-memories : Memories
 listed-memories =
-    record { board = boardBytes (described packBytes); access = accessAfter (described packBytes) zeros packList; records = replicate 288 0 }
+    record { board = boardBytes (described packBytes); access = accessAfter (described packBytes) zeros packList; records = replicate recordSize 0 }
 
 -- the board call over the start's memory
 pack-taken : BoardCall (boardBytes ours) zeros packBytes (boardBytes (described packBytes)) Accepted
@@ -53,12 +54,12 @@ pub pack-loaded : Loaded (described packBytes) packList listed-memories
 unfolding Meets beforeOf afterOf Loads
 pack-loaded =
     record {
-      earlier = boardStep packBytes started described-memories Accepted ∷ [];
-      last = listStep packList described-memories listed-memories Accepted;
+      earlier = boardStep packBytes started described-memories 0 ∷ [];
+      last = listStep packList described-memories listed-memories 0;
       trace =
-          step {x = boardStep packBytes started described-memories Accepted} refl (pack-taken, refl, refl)
-          (step {x = listStep packList described-memories listed-memories Accepted} refl
-          (list-taken, refl, refl) done);
+          step {x = boardStep packBytes started described-memories 0} refl (record { told = Accepted; meets = pack-taken; number = refl }, refl, refl)
+          (step {x = listStep packList described-memories listed-memories 0} refl
+          (record { told = Accepted; meets = list-taken; number = refl }, refl, refl) done);
       takes = (refl, refl);
       left = refl;
       in-force = pack-back;

@@ -1,25 +1,24 @@
--- Demand 3 of the code: traces of calls that meet the contracts of crates offering and manager have it, since their memories hold the states
--- of the rules, of which crate noninterference shows it.
+-- Demand 3 of the exported functions: traces of calls that meet their contracts have it, since their memories hold the states of the rules, of which
+-- crate noninterference shows it.
 use Prim.Native.Nat.{ℕ}
 use mathlib.Core.Path.{_≡_, refl, sym, subst, subst⁻¹, ap, _∙_}
 use mathlib.Core.Bool.{true, false}
-use mathlib.Core.List.{List, [], _∷_}
+use mathlib.Core.List.{List, [], _∷_, map}
 use mathlib.Core.Logic.{⊎-elim}
 use lib.ListN.{replicate}
 use lib.Dec.{eqb}
-use Rattle.rules.specs.declared.Report.{Report}
+use borrow.Author.Tests.{eq-eqb}
 use Rattle.rules.specs.declared.Verdict.{Verdict}
-use Rattle.rules.specs.declared.Verdict.the-variants.{Accepted}
 use Rattle.rules.specs.Table.{anyOf, allOf}
 use Rattle.rules.specs.Board.{Board, rowOf}
 use Rattle.rules.specs.Description.{descriptionIn, boardOf, described, ours, Good}
-use Rattle.rules.specs.Verdict.{accepted}
+use Rattle.rules.specs.Verdict.{verdictNumber, accepted}
 use Rattle.rules.specs.Substructure.{namedIn}
 use Rattle.rules.specs.AccessList.{parts, verdictOf}
 use Rattle.rules.specs.Block.{listPart}
-use Rattle.rules.specs.Outcome.{carriedOut}
+use Rattle.rules.specs.Outcome.{outcomeNumber, carriedOut}
 use Rattle.rules.specs.State.{listed, State, fresh, recordOf, stored}
-use Rattle.rules.specs.Call.{Offer, list, block, verdictTo, taken, afterOffer, afterMessage, Answer, answerTo, Lent, queryOf, Call, offer, message, next}
+use Rattle.rules.specs.Call.{Offer, list, block, verdictTo, taken, afterOffer, afterMessage, answerTo, Lent, queryOf, Call, offer, message, next}
 use Rattle.rules.specs.Sequence.{run, freeOrPermitted}
 use Rattle.rules.proofs.Tests.{decide, cond-true}
 use Rattle.rules.proofs.Sound.{offer-kept as kept-by-offer, first-accepted, block-as-list, left-sound}
@@ -27,19 +26,19 @@ use Rattle.noninterference.specs.Statement.{clustersWhole, loads, listOf, answe
 use Rattle.noninterference.proofs.Theorem.{loaded-on, listed-clusters, named-all, no-trace}
 use Rattle.board.specs.Memory.{boardIn}
 use Rattle.board_setup.proofs.Started.{start-read}
-use Rattle.access.specs.Memory.{someList, setupIn, keptSetup}
+use Rattle.access.specs.Memory.{accessSize, someList, setupIn, keptSetup}
 use Rattle.call_offer.proofs.Offers.{verdict-told, block-told}
-use Rattle.record.specs.Memory.{recordAt, recordsIn, stateIn, kept}
+use Rattle.record.specs.Memory.{recordSize, Memories, recordAt, recordsIn, stateIn, stateOf, kept}
 use Rattle.record.proofs.LentMemory.{zeros-fresh}
-use Rattle.traces.specs.Trace.{Memories, started, Step, boardStep, listStep, blockStep, messageStep, beforeOf, afterOf, callOf, Meets, Trace, step, endOf, callsOf, Loads, Loaded}
-use Rattle.traces.specs.Statement.{setupOf, given, OfTheCode, OnEveryDescription}
+use Rattle.traces.specs.Trace.{started, Step, boardStep, listStep, blockStep, messageStep, beforeOf, afterOf, callOf, Meets, Trace, step, endOf, callsOf, Loads, Loaded}
+use Rattle.traces.specs.Statement.{start, setupOf, Given, inNumbers, given, OfTheCode, OnEveryDescription}
 use Rattle.traces.proofs.Kept.{record-kept, verdict-kept, block-kept}
-use Rattle.traces.proofs.Steps.{Holds, held-by, answer-told, step-holds, trace-holds, trace-given, trace-first, trace-then}
+use Rattle.traces.proofs.Steps.{Holds, held-by, given-told, step-holds, trace-holds, trace-given, trace-first, trace-then}
 
 -- what a fresh manager's memories hold
 started-hold : Holds started (fresh ours)
 unfolding kept keptSetup fresh someList listed
-started-hold = ap (λ (b : Board). stateIn b (replicate 129 0) (replicate 288 0)) start-read ∙ zeros-fresh ours
+started-hold = ap (λ (b : Board). stateIn b (replicate accessSize 0) (replicate recordSize 0)) start-read ∙ zeros-fresh ours
 
 -- memories that hold a state have its board in force
 board-held : (m : Memories) (s : State) → Holds m s → boardIn (m .board) ≡ s .setup .board
@@ -92,36 +91,38 @@ begun-by calls bytes m taken after =
       holds = after ∙ ap (λ (t : State). kept (afterOffer t (list bytes))) is;
     }
 
--- what a step is told of its offer is what the rules tell
+-- what a step is told of its offer is what the rules tell, and 0 is accepted
 module _ (before : Memories) (s : State) (holds : Holds before s) {told : Verdict} (o : Offer) where
-  told-accepted : verdictTo (stateIn (boardIn (before .board)) (before .access) (before .records)) o ≡ told → told ≡ Accepted → accepted (verdictTo s o) ≡ true
+  told-accepted : {number : ℕ} → verdictTo (stateOf before) o ≡ told → number ≡ verdictNumber told → number ≡ 0 → accepted (verdictTo s o) ≡ true
   unfolding accepted
-  told-accepted by-memory ok =
-      ap accepted (sym (verdict-kept s o) ∙ ap (λ (t : State). verdictTo t o) (sym holds) ∙ by-memory ∙ ok)
+  told-accepted by-memory numbered ok =
+      ap accepted (sym (verdict-kept s o) ∙ ap (λ (t : State). verdictTo t o) (sym holds) ∙ by-memory) ∙ eq-eqb _ 0 (sym numbered ∙ ok)
 
 -- the last step accepted the list, alone or in a block
 begun-step : (x : Step) (bytes : List ℕ) (calls : List Call) → Loads x bytes → Meets x → Holds (beforeOf x) (run (fresh ours) calls)
     → Begun (boardIn (afterOf x .board)) bytes (afterOf x)
 unfolding Loads Meets beforeOf afterOf stateIn callOf next
 begun-step (boardStep bytes before after verdict) taken calls none meets holds = absurd none
-begun-step (messageStep lent before after report held) taken calls none meets holds = absurd none
+begun-step (messageStep lent before after outcome report held) taken calls none meets holds = absurd none
 begun-step (listStep bytes before after verdict) taken calls takes meets holds =
     let s = run (fresh ours) calls in
+    let call = meets .0 in
     let ok =
     told-accepted before s holds (list bytes)
-    (verdict-told (boardIn (before .board)) (before .access) (recordsIn (before .records)) bytes) (sym (meets .0 .verdict) ∙ takes .0)
+    (verdict-told (boardIn (before .board)) (before .access) (recordsIn (before .records)) bytes ∙ sym (call .meets .verdict)) (call .number) (takes .0)
     in
     subst (λ (l : List ℕ). Begun (boardIn (after .board)) l after) (takes .1)
     (begun-by calls bytes after ok (step-holds (listStep bytes before after verdict) s meets holds))
-begun-step (blockStep major minor bytes before after report) taken calls takes meets holds =
+begun-step (blockStep major minor bytes before after verdict loop) taken calls takes meets holds =
     let s = run (fresh ours) calls in
+    let call = meets .0 in
     let ok =
     told-accepted before s holds (block major minor bytes)
-    (block-told (boardIn (before .board)) (before .access) (recordsIn (before .records)) major minor bytes) (sym (meets .0 .verdict) ∙ takes .0)
+    (block-told (boardIn (before .board)) (before .access) (recordsIn (before .records)) major minor bytes ∙ sym (call .meets .verdict)) (call .number) (takes .0)
     in
     subst (λ (l : List ℕ). Begun (boardIn (after .board)) l after) (takes .1)
     (begun-by calls (listPart bytes) after (block-as-list s major minor bytes ok .list-accepted)
-    (step-holds (blockStep major minor bytes before after report) s meets holds ∙ block-kept s major minor bytes ok))
+    (step-holds (blockStep major minor bytes before after verdict loop) s meets holds ∙ block-kept s major minor bytes ok))
 
 begun-last : (x : Step) (bytes : List ℕ) (earlier : List Step) → Loads x bytes → Trace started earlier → Trace (endOf started earlier) (x ∷ [])
     → Begun (boardIn (afterOf x .board)) bytes (afterOf x)
@@ -153,10 +154,6 @@ words-left m s holds is {steps} trace p =
     ap (λ (c : Board). recordAt c (endOf m steps .records) (rowOf c p)) (sym (board-stays (callsOf steps) s is))
     ∙ words-at (endOf m steps) (run s (callsOf steps)) p (trace-holds trace s holds)
 
--- the state of the rules that the list leaves
-abbrev pub start : Board → List ℕ → State
-start b bytes = afterOffer (fresh b) (list bytes)
-
 module _ (b : Board) (bytes : List ℕ) {m : Memories} (loaded : Loaded b bytes m) where
   pub start-good : Good b
   start-good = begun loaded .on-board
@@ -185,7 +182,7 @@ module _ (b : Board) (bytes chosen : List ℕ) (named : allOf (namedIn (parts by
     by-rules = loaded-on b (list bytes) chosen (begun loaded .good) (begun loaded .on-board) named whole
 
     module _ {steps : List Step} (trace : Trace m steps) where
-      given-are : given (setupOf b bytes) chosen steps ≡ answers (setupOf b bytes) chosen (start b bytes) (callsOf steps)
+      given-are : given (setupOf b bytes) chosen steps ≡ map inNumbers (answers (setupOf b bytes) chosen (start b bytes) (callsOf steps))
       given-are = trace-given (setupOf b bytes) chosen trace (start b bytes) (begun loaded .holds)
 
       permitted-are : (p : ℕ) → anyOf (eqb p) chosen ≡ true
@@ -193,23 +190,27 @@ module _ (b : Board) (bytes chosen : List ℕ) (named : allOf (namedIn (parts by
       permitted-are p chose =
           ap (freeOrPermitted (setupOf b bytes) p) (words-are b bytes loaded trace p) ∙ by-rules .always-permitted (callsOf steps) p chose
 
-    -- a message after any steps reports what the rules answer after their calls
-    last-told : (steps : List Step) (lent : Lent) (before after : Memories) (report : Report) (held : List ℕ)
-        → Trace m steps → Trace (endOf m steps) (messageStep lent before after report held ∷ [])
-        → report ≡ answerTo (run (start b bytes) (callsOf steps)) (queryOf lent) .report
+    -- a message after any steps gives the number of what the rules answer after their calls
+    last-told : (steps : List Step) (lent : Lent) (before after : Memories) (outcome : ℕ) (report held : List ℕ)
+        → Trace m steps → Trace (endOf m steps) (messageStep lent before after outcome report held ∷ [])
+        → outcome ≡ outcomeNumber (answerTo (run (start b bytes) (callsOf steps)) (queryOf lent) .report .outcome)
     unfolding Meets beforeOf
-    last-told steps lent before after report held first (step starts meets rest) =
+    last-told steps lent before after outcome report held first (step starts meets rest) =
         let left = run (start b bytes) (callsOf steps) in
         let holds : Holds before left = held-by left starts (trace-holds first (start b bytes) (begun loaded .holds)) in
-        ap (λ (a : Answer). a .report) (answer-told left before after holds lent (meets .0))
+        ap (λ (a : Given). a .outcome) (given-told left before after holds lent (meets .0))
 
 pub of-the-code : OfTheCode
+unfolding carriedOut
 of-the-code b bytes chosen named whole =
     record {
+      answers-by-rules = λ loaded trace. given-are b bytes chosen named whole loaded trace;
+      records-by-rules = λ loaded trace p. words-are b bytes loaded trace p;
+      has-entry = λ loaded p chose. by-rules b bytes chosen named whole loaded .has-entry p chose;
       same-answers =
           λ {m} {n} one other {these} {those} t u same.
           given-are b bytes chosen named whole one t
-          ∙ by-rules b bytes chosen named whole one .same-answers (callsOf these) (callsOf those) same
+          ∙ ap (map inNumbers) (by-rules b bytes chosen named whole one .same-answers (callsOf these) (callsOf those) same)
           ∙ sym (given-are b bytes chosen named whole other u);
       same-records =
           λ {m} {n} one other {these} {those} t u same p chose.
@@ -218,10 +219,10 @@ of-the-code b bytes chosen named whole =
           ∙ sym (words-are b bytes other u p);
       always-permitted = λ loaded trace p chose. permitted-are b bytes chosen named whole loaded trace p chose;
       outsider-refused =
-          λ loaded steps lent before after report held trace about out.
-          let last = messageStep lent before after report held ∷ [] in
-          ap (λ (r : Report). carriedOut (r .outcome))
-          (last-told b bytes chosen named whole loaded steps lent before after report held (trace-first steps last trace) (trace-then steps last trace))
+          λ loaded steps lent before after outcome report held trace about out.
+          let last = messageStep lent before after outcome report held ∷ [] in
+          ap (λ (n : ℕ). eqb n 0)
+          (last-told b bytes chosen named whole loaded steps lent before after outcome report held (trace-first steps last trace) (trace-then steps last trace))
           ∙ by-rules b bytes chosen named whole loaded .outsider-refused (callsOf steps) (queryOf lent) about out;
     }
 

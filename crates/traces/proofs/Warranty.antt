@@ -21,8 +21,8 @@ use Rattle.rules.proofs.Warranty.{warranted, from-none}
 use Rattle.board.specs.Memory.{boardIn}
 use Rattle.access.specs.Memory.{listedIn, entriesIn, someList, setupIn, keptSetup}
 use Rattle.access.proofs.Kept.{listed-some}
-use Rattle.record.specs.Memory.{ownAt, recordsIn, stateIn, kept}
-use Rattle.traces.specs.Trace.{Memories, Step, Trace, endOf, callsOf}
+use Rattle.record.specs.Memory.{Memories, ownAt, recordsIn, stateIn, stateOf, kept}
+use Rattle.traces.specs.Trace.{Step, Trace, endOf, callsOf}
 use Rattle.traces.specs.Warranty.{leftIn, WarrantyOfTheCode, CountableIn, FromAnyMemories}
 use Rattle.traces.proofs.Steps.{Holds}
 use Rattle.traces.proofs.Theorem.{start-good, words-are, words-left}
@@ -62,7 +62,7 @@ none-capped releases = lit≤ tt
 
 module _ (m : Memories) (good : CountableIn m) where
   abbrev held : State
-  held = stateIn (boardIn (m .board)) (m .access) (m .records)
+  held = stateOf m
 
   held-listed : listed (held .setup .source) ≡ true
   unfolding stateIn setupIn

@@ -1,4 +1,4 @@
--- Document 02, L10, said of the code: what stands in the record memory after any trace of the calls. Its theorems are in proofs/Warranty.antt, and
+-- Document 02, L10, said of the exported functions: what stands in the record memory after any trace of the calls. Its theorems are in proofs/Warranty.antt, and
 -- cite those of crate rules, where the count is defined.
 use Prim.Native.Nat.{ℕ, _+_, _≤_, min}
 use mathlib.Core.Path.{_≡_}
@@ -14,8 +14,8 @@ use Rattle.rules.specs.Call.{list, afterOffer}
 use Rattle.rules.specs.Warranty.{countOf, DifferenceTold}
 use Rattle.board.specs.Memory.{boardIn}
 use Rattle.access.specs.Memory.{listedIn}
-use Rattle.record.specs.Memory.{recordAt, stateIn}
-use Rattle.traces.specs.Trace.{Memories, Step, Trace, endOf, callsOf, Loaded}
+use Rattle.record.specs.Memory.{Memories, recordAt, stateOf}
+use Rattle.traces.specs.Trace.{Step, Trace, endOf, callsOf, Loaded}
 
 -- what steps from memories m leave in the record memory of processor p
 abbrev pub leftIn : Board → Memories → List Step → ℕ → Record
@@ -46,7 +46,7 @@ pub record CountableIn (m : Memories) : Type 0 where
 pub record WarrantedFrom (b : Board) (m : Memories) (steps : List Step) (p : ℕ) : Type 0 where
   pub counted :
       (t : Tally) → tallyOf t (leftIn b m steps p)
-      ≡ min cap (tallyOf t (leftIn b m [] p) + countOf t p (stateIn b (m .access) (m .records)) (callsOf steps))
+      ≡ min cap (tallyOf t (leftIn b m [] p) + countOf t p (stateOf m) (callsOf steps))
   pub difference : DifferenceTold (leftIn b m [] p) → DifferenceTold (leftIn b m steps p)
 
 abbrev pub FromAnyMemories : Type 0
