@@ -4,7 +4,8 @@
  *
  * Memory. The caller owns every array. A call reads and writes what it is lent and keeps no pointer
  * once it has returned. The library has no heap, no globals and makes no system calls: the archive
- * has no writable data and leaves no symbol undefined, not even memcpy or memset.
+ * has no writable data and leaves no symbol undefined, not even memcpy or memset. No bound of the stack
+ * is proved; docs/INTEGRATION.md says what is known of it.
  *
  * State. A manager is one board memory, one access memory and one record memory. pomrozek_start
  * fills the board memory; access and record memory all zeros are a fresh manager's, so static arrays
@@ -50,9 +51,9 @@ extern "C" {
 #define POMROZEK_BOARD_HOMES 544   /* the home of row r is byte 544 + r */
 
 /*
- * The access memory, in words of 16 bits. Word 0 is 0 until a list is accepted, alone or in a block;
- * which of the two is not kept. Then four words for each row, from word 1 + 4 * row on: recovery master
- * (0: no entry) and three secondaries (0: unused).
+ * The access memory, in words of 16 bits. Word 0 is 0 until a list is accepted, alone or in a block, and
+ * 1 from then on; any number but 0 counts as accepted. Which of the two it was is not kept. Then four words
+ * for each row, from word 1 + 4 * row on: recovery master (0: no entry) and three secondaries (0: unused).
  */
 #define POMROZEK_ACCESS_WORDS 129
 
@@ -67,12 +68,15 @@ extern "C" {
 #define POMROZEK_CONTROLS 256 /* the control word of home h is word 256 + h */
 
 /*
- * The tallies of a processor, by their place in its row: how often its controller was changed since the
- * list or block was accepted, and how. A message counts if its outcome is OK, answered or not, and if it
- * left another controller than before; so a recovery master that requests what it holds counts nowhere, and
- * neither does a handover to oneself. Each tally stays at POMROZEK_TALLY_CAP once there. No answer and no
- * report holds them. While neither grants nor releases has come to the cap, grants minus releases is 1 if
- * the processor is held and 0 if it is free.
+ * The tallies of a processor, by their place in its row: how often its controller was changed, and how. A
+ * message counts if its outcome is OK, answered or not, and if it left another controller than before. So a
+ * recovery master that requests what it holds counts nowhere, and neither does a handover to oneself. Each
+ * tally stays at POMROZEK_TALLY_CAP once there. No answer and no report holds them.
+ *
+ * After any sequence of calls from a fresh manager each tally is the number of its messages since the list
+ * or block was accepted, up to the cap. While neither grants nor releases has come to the cap, grants minus
+ * releases is 1 if the processor is held and 0 if it is free. Memory that something else wrote may hold
+ * anything: calls then count on from what stands there.
  */
 enum pomrozek_tally {
     POMROZEK_GRANTS = 4,    /* requests granted while it was free */
@@ -128,7 +132,7 @@ enum pomrozek_verdict {
     POMROZEK_D3 = 203,     /* an earlier item of its kind has its number */
     POMROZEK_D4 = 204,     /* its secure mark or its class is neither 0 nor 1 */
     POMROZEK_D5 = 205,     /* an earlier processor of its cluster has another class */
-    POMROZEK_D6 = 206      /* there are 64 hosts, or 32 processors, before it */
+    POMROZEK_D6 = 206      /* there are 64 hosts before a host, or 32 processors before a processor */
 };
 
 /*
@@ -165,9 +169,9 @@ enum pomrozek_report {
 
 /*
  * What the sender of a request is to the processor that it names. A host that is recovery master and
- * secondary counts as master, and one that is secondary in several places by the lowest. The role is for
- * the log alone: no answer holds it, which says ACK or NAK and no more. A request that comes to N7 carries
- * the role that it is refused with.
+ * secondary counts as master, and one that is secondary in several places by the lowest. The role goes to
+ * the log only: an answer says ACK or NAK and no more. A request that comes to N7 carries the role that it
+ * is refused with.
  */
 enum pomrozek_role {
     POMROZEK_ROLE_NONE = 0,        /* the entry does not name the host; or no role is told, see above */
@@ -224,8 +228,8 @@ uint32_t pomrozek_list(const uint8_t board[POMROZEK_BOARD_BYTES],
 /*
  * Offers a security board configuration: two ABI bytes, the access list at 2, the host hierarchy at 294
  * (magic 0x8D27, size 68, 32 pairs of host and supervisor, host 0 for an unused one) and the OTP part at
- * 362 (magic 0x4081, size 69, 65 bytes that are not judged). Of a good one the list is in force from now
- * on, exactly as pomrozek_list would leave it; nothing else of it is kept or used.
+ * 362 (magic 0x4081, size 69, 65 bytes that are not judged). If the block is accepted, its list takes effect
+ * exactly as a lone list would. Nothing else of it is kept or used.
  *
  * board       the board memory, only read
  * access      the access memory; changed only if the block is accepted
@@ -236,8 +240,8 @@ uint32_t pomrozek_list(const uint8_t board[POMROZEK_BOARD_BYTES],
  * loop        written by every call: with B8 the first host in entry order that lies on a loop, and not
  *             only on a way into one; with any other verdict 0
  *
- * Returns the verdict, by enum pomrozek_verdict. A refused block changes nothing but the loop word. The
- * call uses a table of 256 bytes on the stack.
+ * Returns the verdict, by enum pomrozek_verdict. A refused block changes nothing but the loop word. Among
+ * what the call keeps on the stack is a table of 256 bytes.
  */
 uint32_t pomrozek_block(const uint8_t board[POMROZEK_BOARD_BYTES],
                         uint16_t access[POMROZEK_ACCESS_WORDS], uint8_t abi_first,
