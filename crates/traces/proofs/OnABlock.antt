@@ -1,7 +1,7 @@
 -- The theorem about the code holds of a block: the block call takes the bench list in a block over memories of zeros, and leaves the memories that the
 -- lone list would.
 use mathlib.Core.Path.{_≡_, refl}
-use mathlib.Core.List.{[]}
+use mathlib.Core.List.{[], _∷_}
 use lib.ListN.{replicate}
 use Rattle.rules.specs.declared.BlockReport.{BlockReport}
 use Rattle.rules.specs.declared.Verdict.the-variants.{Accepted}
