@@ -1,5 +1,5 @@
 // The items of a board description, document 02's L8, read one at a time with a cursor. The rules
-// are rules/specs/Description.antt; where each item begins, specs/Cursor.antt. Nothing is required.
+// are rules/specs/Description.antt; where each item begins, specs/Cursor.antt.
 ghost use mathlib.Core.Path.{_≡_};
 ghost use mathlib.Core.Bool.{cond};
 ghost use Prim.Native.Nat.{_≤_};
@@ -8,14 +8,26 @@ ghost use lib.Dec.{eqb};
 ghost use Rattle.rules.specs.Bytes.{byteAt};
 ghost use Rattle.rules.specs.Description.{processorTag, bodySize, fieldSize, itemIn};
 use rules::Item;
+use wire::Tagged;
 use wire::byte_at;
-use wire::u16_at;
+use wire::tagged_at;
 
 // The tag of a host.
-pub const HOST: u8 = 1;
+const TAG_HOST: u8 = 1;
 
 // The tag of a processor.
-const PROCESSOR: u8 = 2;
+const TAG_PROCESSOR: u8 = 2;
+
+// The same tag for those that judge items.
+pub const HOST: u8 = TAG_HOST;
+
+// The bytes before a body: tag and length.
+const HEAD_BYTES: usize = 3;
+
+// The bytes of a body: number and mark; number, class and cluster.
+const HOST_BYTES: u16 = 2;
+
+const PROCESSOR_BYTES: u16 = 3;
 
 // A field that is not good: it has no tag.
 const NO_ITEM: Item = Item {
@@ -29,43 +41,46 @@ const NO_ITEM: Item = Item {
 fn body_size(tag: u8) -> u16
     ensures { λ r. ⌜ (r ≡ bodySize tag) × (r ≤ 3) ⌝ }
 {
-    if tag == HOST {
-        return 2;
+    if tag == TAG_HOST {
+        return HOST_BYTES;
     }
-    if tag == PROCESSOR {
-        return 3;
-    }
-    0
-}
-
-// The cluster that a field of this tag names; a host has none.
-fn cluster_in(field: &[u8], tag: u8) -> u8
-    ensures { λ r. ⌜ r ≡ cond (eqb tag processorTag) (byteAt (now (field .entry)) 5) 0 ⌝ }
-{
-    if tag == PROCESSOR {
-        return byte_at(field, 5);
+    if tag == TAG_PROCESSOR {
+        return PROCESSOR_BYTES;
     }
     0
 }
 
-// The item that a field begins with, or none where its tag or length is bad or it is cut.
-fn item_in(field: &[u8]) -> Item
-    ensures { λ r. ⌜ r ≡ itemIn (now (field .entry)) ⌝ }
+// The cluster that a body of this tag names; a host has none.
+fn cluster_in(body: &[u8], tag: u8) -> u8
+    ensures { λ r. ⌜ r ≡ cond (eqb tag processorTag) (byteAt (now (body .entry)) 2) 0 ⌝ }
 {
-    let tag = byte_at(field, 0);
+    if tag == TAG_PROCESSOR {
+        return byte_at(body, 2);
+    }
+    0
+}
+
+// The item at place `at` of a description, or none where its tag or length is bad or it is cut; past the
+// end there is none.
+pub fn item_at(description: &[u8], at: usize) -> Item
+    ensures { λ r. ⌜ r ≡ itemIn (drop at (now (description .entry))) ⌝ }
+{
+    let tagged = tagged_at(description, at);
+    let Tagged::Field(tag, length) = tagged else {
+        return NO_ITEM;
+    };
     let size = body_size(tag);
     if size == 0 {
         return NO_ITEM;
     }
-    if u16_at(field, 1) != size {
+    if length != size {
         return NO_ITEM;
     }
-    if field.len() < 3 + size as usize {
-        return NO_ITEM;
-    }
-    let number = byte_at(field, 3);
-    let mark = byte_at(field, 4);
-    let cluster = cluster_in(field, tag);
+    let start = at + HEAD_BYTES;
+    let body = &description[start..];
+    let number = byte_at(body, 0);
+    let mark = byte_at(body, 1);
+    let cluster = cluster_in(body, tag);
     Item {
         tag,
         number,
@@ -74,19 +89,9 @@ fn item_in(field: &[u8]) -> Item
     }
 }
 
-// The item at place `at` of a description; past its end there is none.
-pub fn item_at(description: &[u8], at: usize) -> Item
-    ensures { λ r. ⌜ r ≡ itemIn (drop at (now (description .entry))) ⌝ }
-{
-    if description.len() <= at {
-        return NO_ITEM;
-    }
-    item_in(&description[at..])
-}
-
 // How many bytes the field of an item has.
 pub fn field_size(item: Item) -> usize
     ensures { λ r. ⌜ r ≡ fieldSize item ⌝ }
 {
-    3 + body_size(item.tag) as usize
+    HEAD_BYTES + body_size(item.tag) as usize
 }

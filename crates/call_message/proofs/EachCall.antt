@@ -15,7 +15,7 @@ use Rattle.rules.specs.declared.Record.{Record}
 use Rattle.rules.specs.declared.Report.{Report}
 use Rattle.rules.specs.Table.{firstOf}
 use Rattle.rules.specs.Board.{Board, rows, rowOf, onBoard}
-use Rattle.rules.specs.Message.{Query, query, kindIn, subjectOf}
+use Rattle.rules.specs.Message.{Query, largestAnswer, query, kindIn, subjectOf}
 use Rattle.rules.specs.Outcome.{View, beforeType, admission, outcomeTable, outcomeOf, carriedOut}
 use Rattle.rules.specs.Effect.{effectOf, recordAfter}
 use Rattle.rules.specs.Answer.{ackBytes, bytesFor, answerBytes, answerOf, reportOf, bufferAfter}
@@ -24,7 +24,7 @@ use Rattle.rules.specs.Call.{afterMessage, answerTo, next}
 use Rattle.rules.proofs.Tests.{decide, cond-true, cond-false}
 use Rattle.rules.proofs.Rights.{allowed}
 use Rattle.board.specs.Memory.{boardIn}
-use Rattle.access.specs.Memory.{setupIn}
+use Rattle.access.specs.Memory.{accessSize, setupIn}
 use Rattle.record.specs.Memory.{recordSize, memories, recordAt, recordsIn, stateIn, viewIn}
 use Rattle.record.proofs.LentMemory.{record-length, record-same, store-same, records-store, view-in}
 use Rattle.message_operation.specs.declared.Decision.{Decision}
@@ -35,8 +35,8 @@ use Rattle.call_message.specs.Calls.{lending, MessageCall}
 
 -- ---- every answer fits
 
--- so no call writes more than 29 bytes
-pub written-short : (s : State) (q : Query) → answerTo s q .report .written ≤ 29
+-- so no call writes more than the largest has
+pub written-short : (s : State) (q : Query) → answerTo s q .report .written ≤ largestAnswer
 unfolding answerTo reportOf answerOf
 written-short s q = bytes-short _ q _
 
@@ -45,14 +45,14 @@ all-fits : (v : View) (q : Query) → fitted (q .room) (answerOf v q) ≡ answer
 unfolding answerOf fitted outcomeOf outcomeTable admission beforeType firstOf
 all-fits v q =
     ⊎-elim
-    (λ (small : ltb (q .room) 29 ≡ true).
+    (λ (small : ltb (q .room) largestAnswer ≡ true).
     let refused : outcomeOf v q ≡ R1 = cond-true _ _ small in
     let none = ap (λ (o : Outcome). answerBytes o q (v .state)) refused ∙ bytes-silent R1 q (v .state) (lit< tt) in
     ap (fitted (q .room)) none ∙ fitted-none (q .room) ∙ sym none)
-    (λ (room : ltb (q .room) 29 ≡ false).
-    let fits = le-leb _ (q .room) (le-trans (bytes-short (outcomeOf v q) q (v .state)) (ltb-false (q .room) 29 room)) in
+    (λ (room : ltb (q .room) largestAnswer ≡ false).
+    let fits = le-leb _ (q .room) (le-trans (bytes-short (outcomeOf v q) q (v .state)) (ltb-false (q .room) largestAnswer room)) in
     rw fits)
-    (decide (ltb (q .room) 29))
+    (decide (ltb (q .room) largestAnswer))
 
 -- ---- the message call
 
@@ -67,7 +67,7 @@ unfolding memoryAfter
 memory-length b k o m q =
     ⊎-elim (λ t. ap length (cond-true _ m t) ∙ record-length b m (rowIn b q) _) (λ f. ap length (cond-false _ m f)) (decide (carriedOut o))
 
-module _ (board a m : List ℕ) (channel : ℕ) (bytes words held : List ℕ) (la : length a ≡ 129) (lm : length m ≡ recordSize) where
+module _ (board a m : List ℕ) (channel : ℕ) (bytes words held : List ℕ) (la : length a ≡ accessSize) (lm : length m ≡ recordSize) where
   abbrev b : Board
   b = boardIn board
 

@@ -13,7 +13,7 @@ use Rattle.rules.specs.declared.Kind.the-variants.{Request, Release, Handover, 
 use Rattle.rules.specs.declared.Outcome.{Outcome}
 use Rattle.rules.specs.declared.Outcome.the-variants.{Ok}
 use Rattle.rules.specs.declared.Record.{Record}
-use Rattle.rules.specs.Message.{Query, answerAsked, isKind, kindIn}
+use Rattle.rules.specs.Message.{Query, largestAnswer, answerAsked, isKind, kindIn}
 use Rattle.rules.specs.Outcome.{outcomeNumber, carriedOut, silent}
 use Rattle.rules.specs.Effect.{effectOf}
 use Rattle.rules.specs.Answer.{ack, nak, statusBytes, statusNow, ackBytes, bytesFor, answerBytes, bufferAfter}
@@ -99,14 +99,14 @@ not-status GetStatus bad = absurd (bad refl)
 not-status WaitStatus bad = refl
 not-status Other bad = refl
 
--- ---- an answer has at most 29 bytes
+-- ---- how long an answer is
 
-pub bytes-short : (o : Outcome) (q : Query) (r : Record) → length (answerBytes o q r) ≤ 29
+pub bytes-short : (o : Outcome) (q : Query) (r : Record) → length (answerBytes o q r) ≤ largestAnswer
 unfolding answerBytes bytesFor ackBytes
 bytes-short o q r = go (answerAsked (q .message)) (carriedOut o) (silent o) (isKind (kindIn (q .message)) GetStatus) refl refl refl refl
   where
     go : (a c s g : Bool) → answerAsked (q .message) ≡ a → carriedOut o ≡ c → silent o ≡ s → isKind (kindIn (q .message)) GetStatus ≡ g
-        → length (answerBytes o q r) ≤ 29
+        → length (answerBytes o q r) ≤ largestAnswer
     go false c s g ea ec es eg = rw ea (lit≤ tt)
     go true true s true ea ec es eg = rw (ea, ec, eg) (lit≤ tt)
     go true true s false ea ec es eg = rw (ea, ec, eg) (lit≤ tt)

@@ -1,11 +1,21 @@
--- What is written to the answer buffer: bytes that fit it, at its start.
+-- What is written to the answer buffer: an answer's bytes, where they fit it, at its start.
 use Prim.Native.Nat.{ℕ}
 use mathlib.Core.Path.{_≡_}
 use mathlib.Core.Bool.{cond}
 use mathlib.Core.List.{List, []}
 use lib.ListN.{length}
 use lib.Dec.{leb}
-use Rattle.rules.specs.Answer.{bufferAfter}
+use Rattle.rules.specs.declared.Outcome.{Outcome}
+use Rattle.rules.specs.Answer.{answerBytes, bufferAfter}
+use Rattle.board.specs.Memory.{boardIn}
+use Rattle.record.specs.Memory.{recordAt}
+use Rattle.message_operation.specs.Operation.{asked, rowIn}
+
+-- the answer to a message with this outcome, where board and record memory hold these words
+abbrev pub answerIn : List ℕ → List ℕ → Outcome → List ℕ → List ℕ → List ℕ
+answerIn board records outcome message status =
+    let q = asked 0 message status in
+    answerBytes outcome q (recordAt (boardIn board) records (rowIn (boardIn board) q))
 
 -- the bytes, where they fit the room
 unfoldable pub fitted : ℕ → List ℕ → List ℕ

@@ -1,5 +1,5 @@
 // The answer to a message, written to the start of the lent buffer: the last column of document 01's
-// outcome table. The bytes are those of module bytes. Any buffer and any message are taken.
+// outcome table. What is written is specs/Puts.antt, over the bytes that rules/specs/Answer.antt gives.
 mod bytes;
 
 pub use bytes::ANSWER_BYTES;
@@ -9,11 +9,8 @@ ghost use mathlib.Core.Bool.{cond};
 ghost use mathlib.Core.List.{[]};
 ghost use Rattle.rules.specs.declared.Outcome.the-variants.{Ok};
 ghost use Rattle.rules.specs.Message.{answerAsked};
-ghost use Rattle.rules.specs.Answer.{nak, answerBytes};
-ghost use Rattle.board.specs.Memory.{boardIn};
-ghost use Rattle.record.specs.Memory.{recordAt};
-ghost use Rattle.message_operation.specs.Operation.{asked, rowIn};
-ghost use Rattle.message_answer.specs.Puts.{Puts};
+ghost use Rattle.rules.specs.Answer.{nak};
+ghost use Rattle.message_answer.specs.Puts.{answerIn, Puts};
 use crate::bytes::header;
 use crate::bytes::status_answer;
 use board::BoardMemory;
@@ -46,7 +43,10 @@ fn write_ack(
     records: &[u32],
     status: &[u32],
 ) -> usize
-    ensures { λ r. ⌜ Puts (answerBytes Ok (asked 0 (now (message .entry)) (now (status .entry))) (recordAt (boardIn (now (board .entry))) (now (records .entry)) (rowIn (boardIn (now (board .entry))) (asked 0 (now (message .entry)) (now (status .entry)))))) (now (answer .entry)) (now (answer .exit)) r ⌝ }
+    ensures { λ r. ⌜
+        Puts (answerIn (now (board .entry)) (now (records .entry)) Ok (now (message .entry)) (now (status .entry)))
+        (now (answer .entry)) (now (answer .exit)) r
+        ⌝ }
 {
     if !answer_asked(message) {
         return 0;
@@ -63,7 +63,9 @@ fn write_ack(
 
 // Writes the NAK where an answer is asked for, and gives its length.
 fn write_nak(answer: &mut [u8], message: &[u8]) -> usize
-    ensures { λ r. ⌜ Puts (cond (answerAsked (now (message .entry))) (nak (now (message .entry))) []) (now (answer .entry)) (now (answer .exit)) r ⌝ }
+    ensures { λ r. ⌜
+        Puts (cond (answerAsked (now (message .entry))) (nak (now (message .entry))) []) (now (answer .entry)) (now (answer .exit)) r
+        ⌝ }
 {
     if !answer_asked(message) {
         return 0;
@@ -83,7 +85,10 @@ pub fn write_answer(
     records: &[u32],
     status: &[u32],
 ) -> usize
-    ensures { λ r. ⌜ Puts (answerBytes outcome (asked 0 (now (message .entry)) (now (status .entry))) (recordAt (boardIn (now (board .entry))) (now (records .entry)) (rowIn (boardIn (now (board .entry))) (asked 0 (now (message .entry)) (now (status .entry)))))) (now (answer .entry)) (now (answer .exit)) r ⌝ }
+    ensures { λ r. ⌜
+        Puts (answerIn (now (board .entry)) (now (records .entry)) outcome (now (message .entry)) (now (status .entry)))
+        (now (answer .entry)) (now (answer .exit)) r
+        ⌝ }
 {
     let number = outcome_number(outcome);
     if number == 0 {

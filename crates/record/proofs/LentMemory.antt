@@ -19,7 +19,7 @@ use Rattle.rules.specs.State.{listed, Own, Records, ownOf, joined, freeOwn, fre
 use Rattle.rules.proofs.Tests.{decide, cond-true, cond-false}
 use Rattle.rules.proofs.Tables.{table-length, table-here, table-past, table-below, table-set}
 use Rattle.rules.proofs.Homes.{home-small}
-use Rattle.access.specs.Memory.{listedIn, entryAt, entriesIn, someList, setupIn}
+use Rattle.access.specs.Memory.{accessSize, listedIn, entryAt, entriesIn, someList, setupIn}
 use Rattle.access.proofs.Kept.{listed-some}
 use Rattle.record.specs.Memory.{recordSize, ownBy, ownWords, ownAt, controlPlace, controlAt, recordAt, recordsIn, stateIn, viewIn, withOwn, withControlWord, withRecord}
 
@@ -261,7 +261,7 @@ record-same b m row r size h =
 -- ---- what a call sees
 
 -- past the last row there is no entry
-no-entry-past : (a : List ℕ) (row : ℕ) → length a ≡ 129 → rows ≤ row → entryAt a row ≡ noEntry
+no-entry-past : (a : List ℕ) (row : ℕ) → length a ≡ accessSize → rows ≤ row → entryAt a row ≡ noEntry
 unfolding entryAt noEntry
 no-entry-past a row size past =
     λ t.
@@ -272,7 +272,7 @@ no-entry-past a row size past =
       third = List·getD-eq-default a 0 {n = 1 + 4 * row + 3} (omega arith) t;
     }
 
-pub entry-stands : (a : List ℕ) (row : ℕ) → length a ≡ 129 → getD (entriesIn a) row noEntry ≡ entryAt a row
+pub entry-stands : (a : List ℕ) (row : ℕ) → length a ≡ accessSize → getD (entriesIn a) row noEntry ≡ entryAt a row
 unfolding entriesIn
 entry-stands a row size =
     ⊎-elim (λ t. table-here (entryAt a) noEntry rows row (ltb-true row rows t))
@@ -282,7 +282,7 @@ entry-stands a row size =
     (decide (ltb row rows))
 
 -- what a message sees of the processor that it names is what stands at its row
-pub view-in : (b : Board) (a m : List ℕ) (p : ℕ) → length a ≡ 129 → viewOf (stateIn b a m) p ≡ viewIn b a m (rowOf b p)
+pub view-in : (b : Board) (a m : List ℕ) (p : ℕ) → length a ≡ accessSize → viewOf (stateIn b a m) p ≡ viewIn b a m (rowOf b p)
 unfolding viewOf entryOf recordOf stateIn setupIn viewIn
 view-in b a m p la =
     λ t.
@@ -294,7 +294,7 @@ view-in b a m p la =
     }
 
 -- memory that is all zeros is a fresh manager, on any board
-pub zeros-fresh : (b : Board) → stateIn b (replicate 129 0) (replicate recordSize 0) ≡ fresh b
+pub zeros-fresh : (b : Board) → stateIn b (replicate accessSize 0) (replicate recordSize 0) ≡ fresh b
 unfolding stateIn setupIn someList listedIn entriesIn recordsIn tableOf entryAt fresh noEntries noEntry freeOwn noTallies
 zeros-fresh b = refl
 

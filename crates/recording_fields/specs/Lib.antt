@@ -1,6 +1,4 @@
--- The status words of a field.
--- The fields of a recording.
--- The tags of a recording.
-pub mod Words
+-- The fields of a recording, their tags, and the status words of one.
 pub mod Fields
 pub mod Tags
+pub mod Words

@@ -1,9 +1,10 @@
 // A recording's fields: what stands at a place of a buffer. The rule is specs/Fields.antt.
 ghost use mathlib.Core.Path.{_≡_};
-ghost use Prim.Native.Nat.{_<_};
 ghost use Rattle.recording_fields.specs.Fields.{foundAt};
 use crate::tag::length_good;
 use crate::tag::tag_good;
+use wire::Tagged;
+use wire::tagged_at;
 
 // What stands at a place of a buffer.
 pub enum Found {
@@ -17,35 +18,30 @@ pub enum Found {
     Nothing,
 }
 
-// A byte as a wider number.
-fn wide(byte: u8) -> u16
-    ensures { λ r. ⌜ (r ≡ byte) × (r < 256) ⌝ }
-{
-    byte as u16
-}
-
-// What stands at place `at` of the buffer.
+// What stands at place `at` of the buffer. A bad tag is found alone, a bad length before the body.
 pub fn find(buffer: &[u8], at: usize) -> Found
     ensures { λ r. ⌜ r ≡ foundAt (now (buffer .entry)) at ⌝ }
 {
-    if buffer.len() <= at {
-        return Found::Nothing;
+    let tagged = tagged_at(buffer, at);
+    match tagged {
+        Tagged::End => Found::Nothing,
+        Tagged::Tag(tag) => {
+            if tag_good(tag) {
+                return Found::Partial;
+            }
+            Found::Bad
+        }
+        Tagged::Head(tag, length) => {
+            if length_good(tag, length) {
+                return Found::Partial;
+            }
+            Found::Bad
+        }
+        Tagged::Field(tag, length) => {
+            if length_good(tag, length) {
+                return Found::Whole(tag, length);
+            }
+            Found::Bad
+        }
     }
-    let left = buffer.len() - at;
-    let tag = buffer[at];
-    if !tag_good(tag) {
-        return Found::Bad;
-    }
-    if left < 3 {
-        return Found::Partial;
-    }
-    let place = at + 1;
-    let length = wide(buffer[place]) + 256 * wide(buffer[place + 1]);
-    if !length_good(tag, length) {
-        return Found::Bad;
-    }
-    if left - 3 < length as usize {
-        return Found::Partial;
-    }
-    Found::Whole(tag, length)
 }

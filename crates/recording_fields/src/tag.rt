@@ -2,22 +2,47 @@
 ghost use mathlib.Core.Path.{_≡_};
 ghost use Rattle.recording_fields.specs.Tags.{tagGood, lengthGood};
 
+// An access list.
+pub const TAG_LIST: u8 = 1;
+
+// Status words.
+pub const TAG_STATUS: u8 = 2;
+
+// A channel host and a message.
+pub const TAG_MESSAGE: u8 = 3;
+
+// A block.
+pub const TAG_BLOCK: u8 = 4;
+
+// A board description.
+pub const TAG_BOARD: u8 = 6;
+
+// The longest body of status words, and of any other field.
+const STATUS_LIMIT: u16 = 1020;
+
+const FIELD_LIMIT: u16 = 512;
+
 // Whether a tag is one of the five.
-pub fn tag_good(tag: u8) -> bool
+pub(crate) fn tag_good(tag: u8) -> bool
     ensures { λ r. ⌜ r ≡ tagGood tag ⌝ }
 {
-    (tag == 1) | (tag == 2) | (tag == 3) | (tag == 4) | (tag == 6)
+    (tag == TAG_LIST)
+        | (tag == TAG_STATUS)
+        | (tag == TAG_MESSAGE)
+        | (tag == TAG_BLOCK)
+        | (tag == TAG_BOARD)
 }
 
-// Whether a field of this tag may have this length. A message is tested first, since most fields are one.
-pub fn length_good(tag: u8, length: u16) -> bool
+// Whether a field of this tag may have this length; no length is good for any other tag. A message is
+// tested first, since most fields are one.
+pub(crate) fn length_good(tag: u8, length: u16) -> bool
     ensures { λ r. ⌜ r ≡ lengthGood tag length ⌝ }
 {
-    if tag == 3 {
-        return (1 <= length) & (length <= 512);
+    if tag == TAG_MESSAGE {
+        return (1 <= length) & (length <= FIELD_LIMIT);
     }
-    if tag == 2 {
-        return (length <= 1020) & (length % 4 == 0);
+    if tag == TAG_STATUS {
+        return (length <= STATUS_LIMIT) & (length % 4 == 0);
     }
-    ((tag == 1) | (tag == 4) | (tag == 6)) & (length <= 512)
+    ((tag == TAG_LIST) | (tag == TAG_BLOCK) | (tag == TAG_BOARD)) & (length <= FIELD_LIMIT)
 }

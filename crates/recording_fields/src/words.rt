@@ -3,7 +3,7 @@ ghost use mathlib.Core.Path.{_≡_};
 ghost use Prim.Native.Nat.{_≤_};
 ghost use lib.ListN.{length, take};
 ghost use Rattle.rules.specs.Answer.{bufferAfter};
-ghost use Rattle.recording_fields.specs.Words.{wordsOf};
+ghost use Rattle.recording_fields.specs.Words.{statusWords, statusWordsOf};
 use wire::joined;
 
 // As many status words as the largest field holds, 1,020 bytes.
@@ -14,15 +14,15 @@ pub type StatusWords = [u32; STATUS_WORDS];
 // Takes the status words of a field's body to the start of `words`, as many as there is room for, and
 // gives their number. A body of 1,020 bytes fills it.
 pub fn take_words(body: &[u8], words: &mut StatusWords) -> usize
-    ensures { λ r. ⌜ r ≡ length (take 255 (wordsOf (now (body .entry)))) ⌝ }
-    ensures { λ r. ⌜ r ≤ 255 ⌝ }
-    ensures { λ _. ⌜ now (words .exit) ≡ bufferAfter (take 255 (wordsOf (now (body .entry)))) (now (words .entry)) ⌝ }
+    ensures { λ r. ⌜ r ≡ length (take statusWords (statusWordsOf (now (body .entry)))) ⌝ }
+    ensures { λ r. ⌜ r ≤ statusWords ⌝ }
+    ensures { λ _. ⌜ now (words .exit) ≡ bufferAfter (take statusWords (statusWordsOf (now (body .entry)))) (now (words .entry)) ⌝ }
 {
     let memory = &mut words[..];
     let whole = body.len() / 4;
     let mut i = 0;
     while i < whole {
-        if i == 255 {
+        if i == STATUS_WORDS {
             return i;
         }
         let at = 4 * i;

@@ -12,6 +12,7 @@ use Rattle.rules.proofs.Tests.{decide}
 use Rattle.recording_texts.specs.Digits.{hexOf, glyph}
 use Rattle.recording_texts.specs.Texts.{laid}
 use Rattle.recording_lines.specs.Lines.{answerText}
+use Rattle.rules.specs.Message.{largestAnswer}
 
 -- a piece before the laid text, as long as the place
 head-length : (d : List ℕ) (at : ℕ) (t : List ℕ) → at + length t ≤ length d → length (take at d ++ t) ≡ at + length t
@@ -133,7 +134,7 @@ laid-both held once after at next end t u fits n o e a = (
 
 -- ---- how long an answer is
 
-pub answer-short : (bytes : List ℕ) → length bytes ≤ 29 → length (answerText bytes) ≤ 58
+pub answer-short : (bytes : List ℕ) → length bytes ≤ largestAnswer → length (answerText bytes) ≤ 58
 unfolding answerText
 answer-short bytes h =
     ⊎-elim (λ t. rw t (omega arith)) (λ f. rw f (let size = length-hex bytes in omega arith)) (decide (eqb (length bytes) 0))

@@ -11,7 +11,7 @@ use lib.Dec.{leb}
 use borrow.Author.Tests.{le-leb}
 use borrow.Rule.Slice.PartMut.{midOf, putMid}
 use Rattle.rules.specs.Answer.{bufferAfter}
-use Rattle.recording_texts.specs.Texts.{hasRoom, printed, Printed}
+use Rattle.recording_texts.specs.Texts.{lineSize, hasRoom, printed, Printed}
 use Rattle.recording_texts.proofs.Printing.{all-printed}
 
 module _ (text line : List ℕ) (fits : length text ≤ length line) where
@@ -47,7 +47,7 @@ module _ (line word once : List ℕ) (at : ℕ) (short : length word ≤ length 
       ∙ ap (λ (l : List ℕ). (word ++ name) ++ l) (drop-drop (length name) (length word) line)
       ∙ ap (λ (k : ℕ). (word ++ name) ++ drop k line) (sym (length-append word name))
 
-  pub offer-printed : (name text part′ : List ℕ) (n : ℕ) → name ≡ text → length name ≡ n → 96 ≤ length line → length word + n ≤ 96
+  pub offer-printed : (name text part′ : List ℕ) (n : ℕ) → name ≡ text → length name ≡ n → lineSize ≤ length line → length word + n ≤ lineSize
       → part′ ≡ cond (leb (length name) (length (midOf at (length once - at) once))) (bufferAfter name (midOf at (length once - at) once)) (midOf at (length once - at) once)
       → Printed line (printed (hasRoom line) (word ++ text)) (putMid at (length once - at) once part′) (at + n)
   offer-printed name text part′ n is size room both over =
@@ -55,7 +55,7 @@ module _ (line word once : List ℕ) (at : ℕ) (short : length word ≤ length 
       let wrote = put-over name (drop (length word) line) fits part′ (rw part-is at over) in
       let end : at + n ≡ length (word ++ name) = (let all = length-append word name in omega arith) in
       subst (λ (t : List ℕ). Printed line (printed (hasRoom line) (word ++ t)) (putMid at (length once - at) once part′) (at + n)) is
-      (all-printed line (word ++ name) (hasRoom line) _ (at + n) (le-leb 96 (length line) room) end
+      (all-printed line (word ++ name) (hasRoom line) _ (at + n) (le-leb lineSize (length line) room) end
       (ap (putMid at (length once - at) once) wrote
       ∙ put-behind name
       ∙ ap (λ (k : ℕ). (word ++ name) ++ drop k line) (sym (zero-add (length (word ++ name)))))

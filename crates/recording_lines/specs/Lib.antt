@@ -1,4 +1,3 @@
--- The line that a message prints.
--- The texts of offers.
+-- The lines that a message and an offer print.
 pub mod Lines
 pub mod Offers

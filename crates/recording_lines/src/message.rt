@@ -7,9 +7,11 @@ ghost use lib.Dec.{leb};
 ghost use Prim.Native.Nat.{_+_, _*_, _≤_, _<_};
 ghost use lib.ListN.{length};
 ghost use Rattle.rules.specs.Outcome.{outcomeNumber};
+ghost use Rattle.rules.specs.Message.{largestAnswer};
 ghost use Rattle.recording_texts.specs.Digits.{decimalOf, hexOf};
-ghost use Rattle.recording_texts.specs.Texts.{laid, hasRoom, printed, Printed};
+ghost use Rattle.recording_texts.specs.Texts.{lineSize, laid, hasRoom, printed, Printed};
 ghost use Rattle.recording_lines.specs.Lines.{answerText, outcomeText, messageLine};
+use message_answer::ANSWER_BYTES;
 use recording_texts::LINE_BYTES;
 use recording_texts::digit_count;
 use recording_texts::hex_digit;
@@ -101,11 +103,13 @@ fn append_answer(line: &mut [u8], at: usize, bytes: &[u8]) -> usize
 
 // The line of a message.
 fn write_line(line: &mut [u8], outcome: Outcome, checks: u32, micros: u32, bytes: &[u8]) -> usize
-    requires { ⌜ 96 ≤ length (now line) ⌝ }
-    requires { ⌜ length (now bytes) ≤ 29 ⌝ }
+    requires { ⌜ lineSize ≤ length (now line) ⌝ }
+    requires { ⌜ length (now bytes) ≤ largestAnswer ⌝ }
     ensures { λ r. ⌜ r ≡ length (outcomeText (outcomeNumber outcome) checks micros (now (bytes .entry))) ⌝ }
-    ensures { λ r. ⌜ r ≤ 96 ⌝ }
-    ensures { λ _. ⌜ now (line .exit) ≡ laid (now (line .entry)) 0 (outcomeText (outcomeNumber outcome) checks micros (now (bytes .entry))) ⌝ }
+    ensures { λ r. ⌜ r ≤ lineSize ⌝ }
+    ensures { λ _. ⌜
+        now (line .exit) ≡ laid (now (line .entry)) 0 (outcomeText (outcomeNumber outcome) checks micros (now (bytes .entry)))
+        ⌝ }
 {
     let name = outcome_name(outcome);
     let after_name = append(line, 0, &name);
@@ -118,12 +122,16 @@ fn write_line(line: &mut [u8], outcome: Outcome, checks: u32, micros: u32, bytes
 // The line of a message, of what the call reports and the bytes of its answer. Gives its length: 0
 // where there is no room or the answer is too long, and nothing is written.
 pub fn print_message(line: &mut [u8], told: Report, bytes: &[u8]) -> usize
-    ensures { λ r. ⌜ Printed (now (line .entry)) (printed (hasRoom (now (line .entry)) && leb (length (now (bytes .entry))) 29) (messageLine told (now (bytes .entry)))) (now (line .exit)) r ⌝ }
+    ensures { λ r. ⌜
+        Printed (now (line .entry))
+        (printed (hasRoom (now (line .entry)) && leb (length (now (bytes .entry))) largestAnswer) (messageLine told (now (bytes .entry))))
+        (now (line .exit)) r
+        ⌝ }
 {
     if line.len() < LINE_BYTES {
         return 0;
     }
-    if 29 < bytes.len() {
+    if ANSWER_BYTES < bytes.len() {
         return 0;
     }
     let outcome = told.outcome;

@@ -1,4 +1,3 @@
 -- What the proofs of this crate share.
--- What the proofs of this crate share.
-pub mod Session
 pub mod Room
+pub mod Session

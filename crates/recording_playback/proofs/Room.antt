@@ -7,6 +7,7 @@ use native.Mathlib.Omega.{arith}
 use lib.ListN.{length}
 use borrow.Author.Tests.{leb-true}
 use Rattle.recording_playback.specs.Room.{roomLeft, placeIn}
+use Rattle.recording_texts.specs.Texts.{lineSize}
 
 -- ---- the place of the next line
 
@@ -14,8 +15,8 @@ module _ (out : List ℕ) (used : ℕ) where
   pub place-behind : roomLeft out used ≡ true → used ≡ placeIn out used
   place-behind room = rw room
 
-  pub behind-fits : roomLeft out used ≡ true → used + 96 ≤ length out
-  behind-fits room = let left = leb-true 96 (length out - used) room in omega arith
+  pub behind-fits : roomLeft out used ≡ true → used + lineSize ≤ length out
+  behind-fits room = let left = leb-true lineSize (length out - used) room in omega arith
 
   pub place-anew : roomLeft out used ≡ false → 0 ≡ placeIn out used
   place-anew gone = rw gone

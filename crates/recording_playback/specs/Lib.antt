@@ -1,8 +1,5 @@
--- A session between two reads.
--- How a session ends.
--- Room for a line.
--- What comes next in a buffer.
-pub mod Session
+-- A session between two reads: what comes next in a buffer, where its line goes, and how it ends.
 pub mod Ends
-pub mod Room
 pub mod Next
+pub mod Room
+pub mod Session

@@ -11,6 +11,7 @@ use Rattle.recording_playback.specs.declared.ends.Progress.{Progress}
 use Rattle.recording_playback.specs.Room.{roomLeft, placeIn}
 use Rattle.recording_playback.specs.declared.finding.Next.{Next}
 use Rattle.recording_playback.specs.declared.finding.Next.the-variants.{Field, Over}
+use Rattle.recording_texts.specs.Texts.{lineSize}
 
 -- what a session goes on from: the beginning of a field, with more to come, and the end of what was read
 abbrev pub waits : Found → Bool
@@ -29,7 +30,7 @@ pub record FieldComes (input : List ℕ) (at : ℕ) (out : List ℕ) (used tag e
   pub behind : at + 3 ≤ end
   pub within : end ≤ length input
   pub line : place ≡ placeIn out used
-  pub fits : 96 ≤ length out → place + 96 ≤ length out
+  pub fits : lineSize ≤ length out → place + lineSize ≤ length out
 
 -- the playing ends at place `at`: with room left for a line only where no whole field stands there, since else nothing was written that
 -- could fail. The session goes on only where more may come

@@ -6,6 +6,7 @@ ghost use mathlib.Core.Bool.{_&&_, not};
 ghost use Prim.Native.Nat.{_-_};
 ghost use lib.Dec.{leb};
 ghost use Rattle.recording_playback.specs.Ends.{isBad};
+ghost use Rattle.recording_texts.specs.Texts.{lineSize};
 use recording_fields::Found;
 use recording_texts::LINE_BYTES;
 
@@ -16,7 +17,7 @@ pub struct Gathered {
 }
 
 // After all that was gathered is written, it starts anew. A write that failed is reported.
-pub fn after_write(written: bool) -> Gathered
+pub(crate) fn after_write(written: bool) -> Gathered
     ensures { λ r. ⌜ (r .used ≡ 0) × (r .good ≡ written) ⌝ }
 {
     Gathered {
@@ -32,7 +33,7 @@ pub struct Written {
 }
 
 // What two writes report together: well only where both went well.
-pub fn both(w: Written) -> bool
+pub(crate) fn both(w: Written) -> bool
     ensures { λ r. ⌜ r ≡ (w .gathered && w .last) ⌝ }
 {
     w.gathered & w.last
@@ -47,7 +48,7 @@ pub struct Progress {
 }
 
 // Where the playing of a buffer ends. A bad record ends the session, and so does a write that failed.
-pub fn ended(bad: bool, written: bool, at: usize, words: u8) -> Progress
+pub(crate) fn ended(bad: bool, written: bool, at: usize, words: u8) -> Progress
     ensures { λ r. ⌜ (r .at ≡ at) × (r .words ≡ words) × (r .goes ≡ (not bad && written)) ⌝ }
 {
     Progress {
@@ -58,7 +59,7 @@ pub fn ended(bad: bool, written: bool, at: usize, words: u8) -> Progress
 }
 
 // Whether a bad record stands there.
-pub fn is_bad(found: Found) -> bool
+pub(crate) fn is_bad(found: Found) -> bool
     ensures { λ r. ⌜ r ≡ isBad found ⌝ }
 {
     match found {
@@ -69,9 +70,9 @@ pub fn is_bad(found: Found) -> bool
     }
 }
 
-// Whether a line has room behind the `used` bytes of a buffer of `size`: 96 bytes, which any fits.
-pub fn has_room(size: usize, used: usize) -> bool
-    ensures { λ r. ⌜ r ≡ leb 96 (size - used) ⌝ }
+// Whether a line has room behind the `used` bytes of a buffer of `size`.
+pub(crate) fn has_room(size: usize, used: usize) -> bool
+    ensures { λ r. ⌜ r ≡ leb lineSize (size - used) ⌝ }
 {
     if size < used {
         return false;

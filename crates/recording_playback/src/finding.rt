@@ -18,7 +18,7 @@ pub enum Next {
 
 // Finds the field at place `at` of `input` and makes room for its line in `out`, where `used` bytes are
 // gathered. Where there is no whole field, and where a write failed, the playing ends.
-pub fn next_field(input: &[u8], at: usize, words: u8, out: &[u8], used: usize) -> Next
+pub(crate) fn next_field(input: &[u8], at: usize, words: u8, out: &[u8], used: usize) -> Next
     ensures { λ r. ⌜ Comes (now (input .entry)) at words (now (out .entry)) used r ⌝ }
 {
     let found = find(input, at);

@@ -1,5 +1,5 @@
 // Session recordings: the fields of a buffer carried out in their order, and what is left over for the
-// next read. The rules are specs/Session.antt, over a field carried out in the crate below.
+// next read. The rules are specs/Session.antt.
 mod ends;
 mod finding;
 mod output;
@@ -19,7 +19,12 @@ ghost use mathlib.Core.Path.{_≡_};
 ghost use mathlib.Core.Bool.{true};
 ghost use Rattle.recording_fields.specs.Fields.{foundAt};
 ghost use Rattle.recording_playback.specs.Next.{waits, NoneAt};
-ghost use Rattle.recording_playback.specs.Session.{LeftOver, memories, Reached};
+ghost use Rattle.recording_playback.specs.Session.{bufferSize, LeftOver, Reached};
+ghost use Rattle.recording_step.specs.SessionMemory.{memories};
+ghost use Rattle.recording_texts.specs.Texts.{lineSize};
+
+// How many bytes are read, or gathered to be written, at once.
+pub const BUFFER_BYTES: usize = 65536;
 
 // Plays every whole field of `input`. Lines are gathered in `output` and written when it is full and
 // at the end. A bad record and a write that fails end the session: it goes on only where no whole field
@@ -33,9 +38,13 @@ fn play(
     input: &[u8],
     output: &mut [u8],
 ) -> Progress
-    requires { ⌜ 96 ≤ length (now output) ⌝ }
+    requires { ⌜ lineSize ≤ length (now output) ⌝ }
     ensures { λ r. ⌜ r .at ≤ length (now (input .entry)) ⌝ }
-    ensures { λ r. ⌜ Reached (now (input .entry)) (memories (now (board .entry)) (now (access .entry)) (now (records .entry)) (now (words .entry)) count) (r .at) (memories (now (board .exit)) (now (access .exit)) (now (records .exit)) (now (words .exit)) (r .words)) ⌝ }
+    ensures { λ r. ⌜
+        Reached (now (input .entry))
+        (memories (now (board .entry)) (now (access .entry)) (now (records .entry)) (now (words .entry)) count) (r .at)
+        (memories (now (board .exit)) (now (access .exit)) (now (records .exit)) (now (words .exit)) (r .words))
+        ⌝ }
     ensures { λ r. ⌜ (r .at ≡ 0 → NoneAt (now (input .entry)) 0) ⌝ }
     ensures { λ r. ⌜ (r .goes ≡ true → waits (foundAt (now (input .entry)) (r .at)) ≡ true) ⌝ }
 {
@@ -75,9 +84,13 @@ pub struct Stand {
 
 // Where the bytes that are played end: at `end`, or where the buffer does.
 fn within(end: usize) -> usize
-    ensures { λ r. ⌜ r ≡ min end 65536 ⌝ }
+    ensures { λ r. ⌜ r ≡ min end bufferSize ⌝ }
 {
-    if end < 65536 { end } else { 65536 }
+    if end < BUFFER_BYTES {
+        end
+    } else {
+        BUFFER_BYTES
+    }
 }
 
 // Plays the bytes of `input` up to `end`, or all of them where it has no more, and moves what is left over
@@ -88,12 +101,16 @@ pub fn play_held(
     records: &mut RecordMemory,
     words: &mut StatusWords,
     count: u8,
-    input: &mut [u8; 65536],
+    input: &mut [u8; BUFFER_BYTES],
     end: usize,
-    output: &mut [u8; 65536],
+    output: &mut [u8; BUFFER_BYTES],
 ) -> Stand
-    ensures { λ r. ⌜ LeftOver (take end (now (input .entry))) (memories (now (board .entry)) (now (access .entry)) (now (records .entry)) (now (words .entry)) count) (now (input .exit)) (memories (now (board .exit)) (now (access .exit)) (now (records .exit)) (now (words .exit)) (r .words)) (r .held) (r .goes) ⌝ }
-    ensures { λ r. ⌜ r .held ≤ 65536 ⌝ }
+    ensures { λ r. ⌜
+        LeftOver (take end (now (input .entry)))
+        (memories (now (board .entry)) (now (access .entry)) (now (records .entry)) (now (words .entry)) count) (now (input .exit))
+        (memories (now (board .exit)) (now (access .exit)) (now (records .exit)) (now (words .exit)) (r .words)) (r .held) (r .goes)
+        ⌝ }
+    ensures { λ r. ⌜ r .held ≤ bufferSize ⌝ }
 {
     let stop = within(end);
     let all = &mut input[..];

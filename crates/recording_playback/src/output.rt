@@ -18,6 +18,7 @@ ghost use mathlib.Core.Path.{_≡_};
 ghost use mathlib.Core.Bool.{true, false};
 ghost use Rattle.recording_playback.specs.Room.{roomLeft, placeIn};
 ghost use Rattle.recording_playback.specs.Ends.{isBad};
+ghost use Rattle.recording_texts.specs.Texts.{lineSize};
 
 // The first `used` bytes of a buffer, or all of it where it has no more.
 fn up_to(out: &[u8], used: usize) -> &[u8]
@@ -29,10 +30,10 @@ fn up_to(out: &[u8], used: usize) -> &[u8]
     &out[..used]
 }
 
-// Makes room for a line: where less than 96 bytes are left, the lines that are gathered are written.
-pub fn make_room(out: &[u8], used: usize) -> Gathered
+// Makes room for a line: where too few bytes are left, the lines that are gathered are written.
+pub(crate) fn make_room(out: &[u8], used: usize) -> Gathered
     ensures { λ r. ⌜ r .used ≡ placeIn (now (out .entry)) used ⌝ }
-    ensures { λ r. ⌜ (96 ≤ length (now (out .entry)) → r .used + 96 ≤ length (now (out .entry))) ⌝ }
+    ensures { λ r. ⌜ (lineSize ≤ length (now (out .entry)) → r .used + lineSize ≤ length (now (out .entry))) ⌝ }
     ensures { λ r. ⌜ (roomLeft (now (out .entry)) used ≡ true → r .good ≡ true) ⌝ }
 {
     if has_room(out.len(), used) {
@@ -60,7 +61,7 @@ fn finish(out: &[u8], used: usize, last: &[u8]) -> Written
 
 // Ends the playing of a buffer where no whole field follows: the lines that are gathered are written,
 // and what a bad record prints.
-pub fn stopped(found: Found, at: usize, words: u8, out: &[u8], used: usize) -> Progress
+pub(crate) fn stopped(found: Found, at: usize, words: u8, out: &[u8], used: usize) -> Progress
     ensures { λ r. ⌜ (r .at ≡ at) × (r .words ≡ words) × (isBad found ≡ true → r .goes ≡ false) ⌝ }
 {
     let bad = is_bad(found);

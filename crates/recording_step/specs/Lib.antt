@@ -1,8 +1,5 @@
--- A field by its tag.
--- An offer by its tag.
--- An offer carried out.
--- A message carried out.
-pub mod ByTag
-pub mod OfferByTag
+-- A field carried out by its tag: an offer, a message, status words; and what a session holds.
+pub mod Fields
+pub mod Messages
 pub mod Offers
-pub mod Played
+pub mod SessionMemory

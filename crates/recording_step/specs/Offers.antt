@@ -1,5 +1,5 @@
--- What carrying out an offer leaves: the line it prints, laid over the start of what is lent, and the memory that it may change. Where less
--- than 96 bytes are lent, which any line fits, nothing is carried out.
+-- What carrying out an offer leaves: the line it prints, laid over the start of what is lent, and the memory that it may change. Where there
+-- is no room for a line, nothing is carried out.
 use Prim.Native.Nat.{ℕ}
 use mathlib.Core.Path.{_≡_}
 use mathlib.Core.Bool.{cond}
@@ -12,12 +12,12 @@ use Rattle.rules.specs.Block.{blockVerdict, reportedHost}
 use Rattle.access.specs.Memory.{listedIn}
 use Rattle.board_setup.specs.Setup.{boardAfter}
 use Rattle.call_offer.specs.AccessAfter.{accessAfter, accessAfterBlock}
-use Rattle.recording_texts.specs.Texts.{hasRoom, printed, Printed}
-use Rattle.recording_lines.specs.Offers.{offerLine, listWord, blockWord, boardWord}
+use Rattle.recording_texts.specs.Texts.{hasRoom}
+use Rattle.recording_lines.specs.Offers.{PrintedOffer, listWord, blockWord, boardWord}
 
 -- an offer: its line begins with a word, and what the memory holds that it may change is `after`. With B8 the line has the host
 pub record PlayedOffer (word : List ℕ) (verdict : Verdict) (host : ℕ) (held after line held′ line′ : List ℕ) (n : ℕ) : Type 0 where
-  pub prints : Printed line (printed (hasRoom line) (offerLine word verdict host)) line′ n
+  pub prints : PrintedOffer line word verdict host line′ n
   pub memory : held′ ≡ cond (hasRoom line) after held
 
 -- a board field: its body is offered; the access memory says whether a list was accepted
@@ -30,8 +30,15 @@ abbrev pub PlayedList : Board → List ℕ → List ℕ → List ℕ → List �
 PlayedList b access body line access′ line′ n =
     PlayedOffer listWord (verdictOf b (listedIn access) body) 0 access (accessAfter b access body) line access′ line′ n
 
--- a block field: its body is offered, with the ABI bytes 0 and 1
+-- the ABI bytes that a recorded block must have
+abbrev pub abiMajor : ℕ
+abiMajor = 0
+
+abbrev pub abiMinor : ℕ
+abiMinor = 1
+
+-- a block field: its body is offered, with these ABI bytes
 abbrev pub PlayedBlock : Board → List ℕ → List ℕ → List ℕ → List ℕ → List ℕ → ℕ → Type 0
 PlayedBlock b access body line access′ line′ n =
-    let verdict = blockVerdict b (listedIn access) 0 1 body in
-    PlayedOffer blockWord verdict (reportedHost verdict body) access (accessAfterBlock b access 0 1 body) line access′ line′ n
+    let verdict = blockVerdict b (listedIn access) abiMajor abiMinor body in
+    PlayedOffer blockWord verdict (reportedHost verdict body) access (accessAfterBlock b access abiMajor abiMinor body) line access′ line′ n

@@ -1,18 +1,25 @@
-// Session recordings: a whole field carried out by its tag. The rules are specs/ByTag.antt, over an offer, a
-// message and status words carried out in the crates below.
+// Session recordings: a whole field carried out by its tag. The rules are specs/Fields.antt, over an offer in
+// specs/Offers.antt and a message in specs/Messages.antt.
 mod message;
 mod offer;
-mod offer_tag;
 
 use crate::message::message_line;
-use crate::offer_tag::play_offer;
+use crate::offer::block_line;
+use crate::offer::board_line;
+use crate::offer::list_line;
 use access::AccessMemory;
 use board::BoardMemory;
 use record::RecordMemory;
 use recording_fields::StatusWords;
+use recording_fields::TAG_BLOCK;
+use recording_fields::TAG_BOARD;
+use recording_fields::TAG_LIST;
+use recording_fields::TAG_STATUS;
 use recording_fields::take_words;
 ghost use Prim.Native.Nat.{_≤_};
-ghost use Rattle.recording_step.specs.ByTag.{PlayedField};
+ghost use Rattle.recording_texts.specs.Texts.{lineSize};
+ghost use Rattle.recording_step.specs.SessionMemory.{memories};
+ghost use Rattle.recording_step.specs.Fields.{PlayedField};
 
 // What a field leaves: the length of the line it printed, and how many status words stand.
 pub struct Played {
@@ -20,7 +27,8 @@ pub struct Played {
     pub words: u8,
 }
 
-// Carries out a whole field, and writes the line that it prints, if any, over the start of `line`.
+// Carries out a whole field, and writes the line that it prints, if any, over the start of `line`. What is
+// no offer and no status words is a message.
 pub fn play_field(
     board: &mut BoardMemory,
     access: &mut AccessMemory,
@@ -31,25 +39,47 @@ pub fn play_field(
     body: &[u8],
     line: &mut [u8],
 ) -> Played
-    ensures { λ r. ⌜ r .line ≤ 96 ⌝ }
-    ensures { λ r. ⌜ PlayedField tag count (now (body .entry)) (now (board .entry)) (now (access .entry)) (now (records .entry)) (now (words .entry)) (now (line .entry)) (now (board .exit)) (now (access .exit)) (now (records .exit)) (now (words .exit)) (now (line .exit)) (r .line) (r .words) ⌝ }
+    ensures { λ r. ⌜ r .line ≤ lineSize ⌝ }
+    ensures { λ r. ⌜
+        PlayedField tag (now (body .entry)) (now (line .entry))
+        (memories (now (board .entry)) (now (access .entry)) (now (records .entry)) (now (words .entry)) count)
+        (memories (now (board .exit)) (now (access .exit)) (now (records .exit)) (now (words .exit)) (r .words))
+        (now (line .exit)) (r .line)
+        ⌝ }
 {
-    if (tag == 1) | (tag == 4) | (tag == 6) {
+    if tag == TAG_LIST {
+        let printed = list_line(board, access, body, line);
         return Played {
-            line: play_offer(board, access, tag, body, line),
+            line: printed,
             words: count,
         };
     }
-    if tag == 2 {
+    if tag == TAG_BLOCK {
+        let printed = block_line(board, access, body, line);
+        return Played {
+            line: printed,
+            words: count,
+        };
+    }
+    if tag == TAG_BOARD {
+        let printed = board_line(board, access, body, line);
+        return Played {
+            line: printed,
+            words: count,
+        };
+    }
+    if tag == TAG_STATUS {
+        let taken = take_words(body, words);
         return Played {
             line: 0,
-            words: take_words(body, words) as u8,
+            words: taken as u8,
         };
     }
     let status = &words[..];
     let standing = count as usize;
+    let printed = message_line(board, access, records, body, &status[..standing], line);
     Played {
-        line: message_line(board, access, records, body, &status[..standing], line),
+        line: printed,
         words: count,
     }
 }

@@ -1,9 +1,9 @@
-// Session recordings: carries a message out, and writes the line that it prints. The rules are
-// specs/Played.antt, over the lines of the crate below.
+// Session recordings: carries a message out, and writes the line that it prints. The rule is
+// specs/Messages.antt.
 ghost use mathlib.Core.Path.{_≡_};
 ghost use lib.ListN.{drop};
-ghost use Rattle.board.specs.Memory.{boardIn};
-ghost use Rattle.recording_step.specs.Played.{PlayedMessage};
+ghost use Rattle.record.specs.Memory.{memories};
+ghost use Rattle.recording_step.specs.Messages.{PlayedMessage};
 use access::AccessMemory;
 use board::BoardMemory;
 use call_message::message;
@@ -25,7 +25,7 @@ fn after_first(body: &[u8]) -> &[u8]
 
 // Carries out a message field with these status words, and writes its line over the start of `line`. Gives
 // the line's length. Where there is no room for a line, nothing is carried out.
-pub fn message_line(
+pub(crate) fn message_line(
     board: &BoardMemory,
     access: &AccessMemory,
     records: &mut RecordMemory,
@@ -33,7 +33,10 @@ pub fn message_line(
     status: &[u32],
     line: &mut [u8],
 ) -> usize
-    ensures { λ r. ⌜ PlayedMessage (boardIn (now (board .entry))) (now (access .entry)) (now (records .entry)) (now (body .entry)) (now (status .entry)) (now (line .entry)) (now (records .exit)) (now (line .exit)) r ⌝ }
+    ensures { λ r. ⌜
+        PlayedMessage (memories (now (board .entry)) (now (access .entry)) (now (records .entry)))
+        (now (body .entry)) (now (status .entry)) (now (line .entry)) (now (records .exit)) (now (line .exit)) r
+        ⌝ }
 {
     if line.len() < LINE_BYTES {
         return 0;

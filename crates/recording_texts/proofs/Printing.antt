@@ -6,7 +6,7 @@ use mathlib.Core.List.{List, []}
 use lib.ListN.{length}
 use lib.Seq.{paste-zero}
 use lib.Dec.{lit≤}
-use Rattle.recording_texts.specs.Texts.{laid, printed, Printed}
+use Rattle.recording_texts.specs.Texts.{lineSize, laid, printed, Printed}
 
 -- nothing laid
 pub laid-none : (d : List ℕ) (at : ℕ) → d ≡ laid d at []
@@ -16,6 +16,6 @@ module _ (line text : List ℕ) (room : Bool) where
   pub nothing-printed : room ≡ false → Printed line (printed room text) line 0
   nothing-printed none = record { count = rw none; over = rw none (laid-none line 0); short = lit≤ tt }
 
-  pub all-printed : (line′ : List ℕ) (n : ℕ) → room ≡ true → n ≡ length text → line′ ≡ laid line 0 text → n ≤ 96
+  pub all-printed : (line′ : List ℕ) (n : ℕ) → room ≡ true → n ≡ length text → line′ ≡ laid line 0 text → n ≤ lineSize
       → Printed line (printed room text) line′ n
   all-printed line′ n all count over short = record { count = rw all count; over = rw all over; short = short }

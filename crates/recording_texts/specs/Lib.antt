@@ -1,6 +1,4 @@
--- What is printed of a verdict.
--- Numbers as digits.
--- The texts that a session prints.
-pub mod Names
+-- The texts that a session prints: digits, names, fixed lines.
 pub mod Digits
+pub mod Names
 pub mod Texts

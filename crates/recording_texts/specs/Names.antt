@@ -26,6 +26,10 @@ verdictLine number host = verdictName number ++ (hostText number host ++ (10 ∷
 abbrev pub loopLine : ℕ → List ℕ
 loopLine host = verdictLine 108 host
 
--- a text in eight bytes, zeros behind it
+-- the bytes that the text of any verdict fits in
+abbrev pub textSize : ℕ
+textSize = 8
+
+-- a text in them, zeros behind it
 abbrev pub padded : List ℕ → List ℕ
-padded text = text ++ replicate (8 - length text) 0
+padded text = text ++ replicate (textSize - length text) 0

@@ -22,9 +22,13 @@ cutLine = 99 ∷ 117 ∷ 116 ∷ 32 ∷ 114 ∷ 101 ∷ 99 ∷ 111 ∷ 114 ∷ 1
 abbrev pub laid : List ℕ → ℕ → List ℕ → List ℕ
 laid held at text = take at held ++ text ++ drop (at + length text) held
 
--- room for any line whose answer has at most 29 bytes
+-- the bytes that any line fits in
+abbrev pub lineSize : ℕ
+lineSize = 96
+
+-- room for any line
 abbrev pub hasRoom : List ℕ → Bool
-hasRoom line = leb 96 (length line)
+hasRoom line = leb lineSize (length line)
 
 -- what is printed of a text: all of it, or nothing
 abbrev pub printed : Bool → List ℕ → List ℕ
@@ -34,4 +38,4 @@ printed room text = cond room text []
 pub record Printed (line text line′ : List ℕ) (n : ℕ) : Type 0 where
   pub count : n ≡ length text
   pub over : line′ ≡ laid line 0 text
-  pub short : n ≤ 96
+  pub short : n ≤ lineSize

@@ -8,9 +8,12 @@ ghost use Rattle.recording_texts.specs.Names.{verdictLetter, loopLine, v
 use result_numbers::verdict_number;
 use rules::Verdict;
 
-// At most eight bytes of text, and how many they are. The others are 0.
+// The bytes that the text of any verdict fits in.
+const TEXT_BYTES: usize = 8;
+
+// A text, and how many bytes it has. The others are 0.
 pub struct Text {
-    pub bytes: [u8; 8],
+    pub bytes: [u8; TEXT_BYTES],
     pub count: usize,
 }
 

@@ -11,11 +11,13 @@ use record::RECORD_WORDS;
 use record::RecordMemory;
 use recording_fields::STATUS_WORDS;
 use recording_fields::StatusWords;
+use recording_playback::BUFFER_BYTES;
 use recording_playback::Stand;
 use recording_playback::play_held;
 use recording_texts::cut_line;
 ghost use Prim.Native.Nat.{_+_, _≤_};
 ghost use lib.ListN.{length};
+ghost use Rattle.recording_playback.specs.Session.{bufferSize};
 
 // Reads once, behind the first `held` bytes of `input`, and gives the number of bytes read.
 fn read_behind(input: &mut [u8], held: usize) -> usize
@@ -35,11 +37,11 @@ fn turn(
     records: &mut RecordMemory,
     words: &mut StatusWords,
     stand: Stand,
-    input: &mut [u8; 65536],
-    output: &mut [u8; 65536],
+    input: &mut [u8; BUFFER_BYTES],
+    output: &mut [u8; BUFFER_BYTES],
 ) -> Stand
-    requires { ⌜ stand .held ≤ 65536 ⌝ }
-    ensures { λ r. ⌜ r .held ≤ 65536 ⌝ }
+    requires { ⌜ stand .held ≤ bufferSize ⌝ }
+    ensures { λ r. ⌜ r .held ≤ bufferSize ⌝ }
 {
     let held = stand.held;
     let count = stand.words;

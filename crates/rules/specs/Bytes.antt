@@ -1,10 +1,11 @@
 -- Little-endian fields, packed, as the list and the messages have them. A byte past the end reads as 0, so that every definition is
 -- total; no rule looks there.
 use Prim.Native.Nat.{ℕ, _+_, _*_, _/_, _%_, _^_}
-use mathlib.Core.Bool.{Bool}
+use mathlib.Core.Bool.{Bool, cond}
 use mathlib.Core.List.{List, [], _∷_}
-use lib.ListN.{getD}
-use lib.Dec.{eqb}
+use lib.ListN.{length, getD}
+use lib.Seq.{sets}
+use lib.Dec.{eqb, leb}
 
 -- the byte at place i
 abbrev pub byteAt : List ℕ → ℕ → ℕ
@@ -22,6 +23,10 @@ u32At bytes i =
 -- the four bytes of a 32-bit number
 abbrev pub u32Bytes : ℕ → List ℕ
 u32Bytes x = x % 256 ∷ x / 256 % 256 ∷ x / 65536 % 256 ∷ x / 16777216 % 256 ∷ []
+
+-- bytes with a 32-bit number at place i; where its four bytes do not fit there, they are as they were
+unfoldable pub withU32 : List ℕ → ℕ → ℕ → List ℕ
+withU32 bytes i x = cond (leb (i + 4) (length bytes)) (sets bytes i (u32Bytes x)) bytes
 
 -- bit k of x, 0 or 1
 abbrev pub bitOf : ℕ → ℕ → ℕ

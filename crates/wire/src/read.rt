@@ -17,6 +17,13 @@ pub fn joined(a: u8, b: u8, c: u8, d: u8) -> u32
     wide(a) + 256 * wide(b) + 65536 * wide(c) + 16777216 * wide(d)
 }
 
+// The number that two bytes say, lowest first.
+pub(crate) fn paired(low: u8, high: u8) -> u16
+    ensures { λ r. ⌜ r ≡ low + 256 * high ⌝ }
+{
+    low as u16 + 256 * high as u16
+}
+
 // The byte at place `i`.
 pub fn byte_at(bytes: &[u8], i: usize) -> u8
     ensures { λ r. ⌜ r ≡ byteAt (now (bytes .entry)) i ⌝ }
@@ -34,9 +41,7 @@ pub fn u16_at(bytes: &[u8], at: usize) -> u16
     if bytes.len() <= at {
         return 0;
     }
-    let low = byte_at(bytes, at) as u16;
-    let high = byte_at(bytes, at + 1) as u16;
-    low + 256 * high
+    paired(bytes[at], byte_at(bytes, at + 1))
 }
 
 // The 32-bit number at place `at`. One test finds all four bytes there, as in every message that is

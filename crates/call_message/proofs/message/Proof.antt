@@ -2,6 +2,7 @@
 use mathlib.Core.Path.{_≡_, sym, ap, _∙_}
 use lib.ListN.{length}
 use denote.Ref.{now}
+use Rattle.access.specs.Memory.{accessSize}
 use Rattle.record.specs.Memory.{recordSize}
 use Rattle.call_message.proofs.EachCall.{memory-length, message-call}
 use borrow.Author.Needs.{needs}
@@ -12,7 +13,7 @@ returns : tie.Need-returns
 returns c =
     let a = c .before .before .before .before .before .before .before .before .before .before .before .before .args in
     let d = c .before .before .before .before .before .before in
-    let la : length (now (a .access)) ≡ 129 = search needs in
+    let la : length (now (a .access)) ≡ accessSize = search needs in
     let left : length (d .decide .last .1 .1 .0) ≡ recordSize = search needs in
     let lm : length (now (a .records)) ≡ recordSize = sym (memory-length _ _ _ (now (a .records)) _) ∙ sym (ap length (d .decide .ensures .records)) ∙ left in
     message-call (now (a .board)) (now (a .access)) (now (a .records)) (a .channel) (now (a .message)) (now (a .status)) (now (a .answer)) la lm

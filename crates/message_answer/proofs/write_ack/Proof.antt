@@ -1,4 +1,4 @@
--- `message_answer::write_ack` meets its contract: nothing where none is asked for, the 29 bytes of get status, or the header.
+-- `message_answer::write_ack` meets its contract: nothing where none is asked for, the ACK to get status, or the header.
 use mathlib.Core.Path.{sym, _∙_}
 use mathlib.Core.List.{[], _∷_}
 use borrow.Author.Tests.{not-true, not-false}
@@ -17,24 +17,31 @@ returns c = puts-none _ _ (bytes-unasked _ _ _ (sym (c .before .answer-asked .en
 returns-2 : tie.Need-returns-2
 unfolding subjectOf
 returns-2 c =
-    let a = c .before .before .before .before .before .before .before .before .before .before .before .before .before .before .before .before .before .before .before .args in
-    let m = now (a .message) in
-    let asked = sym (c .before .before .before .before .before .before .before .before .before .before .before .before .before .before .answer-asked .ensures) ∙ not-false _ (c .before .before .before .before .before .before .before .before .before .before .before .before .before .if1 .left) in
-    let is = told-kind m (c .before .before .before .before .before .before .before .before .before .before .before .kind-of .ensures) (c .before .before .before .before .before .before .before .before .before .before .before .before .u16-at .ensures) (c .before .before .before .before .before .before .before .before .before .enum-told .given .1) in
+    let built = c .before .before .before .before .before in
+    let told = built .before .before .before .before in
+    let flag = told .before .before .before .before in
+    let a = flag .before .before .before .before .before .before .args in
+    let asked = sym (flag .before .answer-asked .ensures) ∙ not-false _ (flag .if1 .left) in
+    let is = told-kind (now (a .message)) (told .before .before .kind-of .ensures) (told .before .before .before .u16-at .ensures) (told .enum-told .given .1) in
     puts-given (now (a .answer)) _ _ _ _
-    ((rw (c .before .before .before .before .before .before .status-now .ensures, c .before .before .before .before .before .before .before .record-at .ensures, c .before .before .before .before .before .before .before .before .row-in .ensures) at (c .before .before .before .before .before .status-answer .ensures))
+    ((rw (
+      built .before .status-now .ensures,
+      built .before .before .record-at .ensures,
+      built .before .before .before .row-in .ensures,
+    ) at (built .status-answer .ensures))
     ∙ sym (bytes-status _ _ asked is))
     (c .before .before .put .ensures)
 
 returns-3 : tie.Need-returns-3
 returns-3 c =
-    let a = c .before .before .before .before .before .before .before .before .before .before .before .before .before .before .before .args in
-    let asked = sym (c .before .before .before .before .before .before .before .before .before .before .answer-asked .ensures) ∙ not-false _ (c .before .before .before .before .before .before .before .before .before .if1 .left) in
-    let kind = c .before .before .before .before .before .before .before .kind-of .ensures in
-    let read = c .before .before .before .before .before .before .before .before .u16-at .ensures in
-    let other = not-status (c .before .before .before .before .before .before .before .kind-of .result) (λ is. miss (0 ∷ 1 ∷ 2 ∷ 3 ∷ 4 ∷ 5 ∷ 7 ∷ 8 ∷ []) 6 tt (rw is at (c .before .before .before .before .before .before .match .keys2))) in
+    let built = c .before .before .before .before .before in
+    let kind = built .before .before in
+    let flag = kind .before .before in
+    let a = flag .before .before .before .before .before .before .args in
+    let asked = sym (flag .before .answer-asked .ensures) ∙ not-false _ (flag .if1 .left) in
+    let other = not-status (kind .kind-of .result) (λ is. miss (0 ∷ 1 ∷ 2 ∷ 3 ∷ 4 ∷ 5 ∷ 7 ∷ 8 ∷ []) 6 tt (rw is at (built .before .match .keys2))) in
     puts-given (now (a .answer)) _ _ _ _
-    (c .before .before .before .before .before .header .ensures ∙ sym (bytes-ack _ _ asked (rw (kind, read) at other)))
+    (built .header .ensures ∙ sym (bytes-ack _ _ asked (rw (kind .kind-of .ensures, kind .before .u16-at .ensures) at other)))
     (c .before .before .put2 .ensures)
 
 pub write-ack-spec : {M : Type 1} → statement M

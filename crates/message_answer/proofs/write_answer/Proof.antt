@@ -10,8 +10,9 @@ use Rattle.message_answer.proofs.write_answer.Tie as tie
 returns : tie.Need-returns
 unfolding carriedOut
 returns c =
-    let a = c .before .before .before .before .before .before .before .before .before .before .args in
-    let ok = eq-eqb _ 0 (sym (c .before .before .before .before .before .outcome-number .ensures) ∙ c .before .before .before .before .if1 .taken) in
+    let d = c .before .before .before .before in
+    let a = d .before .before .before .before .before .before .args in
+    let ok = eq-eqb _ 0 (sym (d .before .outcome-number .ensures) ∙ d .if1 .taken) in
     puts-same (bytes-ok (a .outcome) _ _ ok) (c .before .before .write-ack .ensures)
 
 returns-2 : tie.Need-returns-2
@@ -21,10 +22,12 @@ returns-2 c =
 returns-3 : tie.Need-returns-3
 unfolding carriedOut silent
 returns-3 c =
-    let a = c .before .before .before .before .before .before .before .before .before .before .before .args in
-    let number = c .before .before .before .before .before .before .outcome-number .ensures in
-    let refused = ne-eqb _ 0 (λ e. c .before .before .before .before .before .if1 .left (number ∙ e)) in
-    let loud = le-ltb 100 _ (rw number at (c .before .before .before .before .if2 .left)) in
+    let d = c .before .before .before .before in
+    let f = d .before .before in
+    let a = f .before .before .before .before .before .args in
+    let number = f .outcome-number .ensures in
+    let refused = ne-eqb _ 0 (λ e. d .before .if1 .left (number ∙ e)) in
+    let loud = le-ltb 100 _ (rw number at (d .if2 .left)) in
     puts-same (bytes-nak (a .outcome) _ _ refused loud) (c .before .before .write-nak .ensures)
 
 pub write-answer-spec : {M : Type 1} → statement M

@@ -13,9 +13,11 @@ returns c = puts-none _ _ (cond-false _ _ (sym (c .before .answer-asked .ensures
 
 returns-2 : tie.Need-returns-2
 returns-2 c =
-    let a = c .before .before .before .before .before .before .before .before .before .before .args in
-    let asked = sym (c .before .before .before .before .before .before .before .answer-asked .ensures) ∙ not-false _ (c .before .before .before .before .before .before .if1 .left) in
-    puts-given (now (a .answer)) _ _ _ _ (c .before .before .before .before .before .header .ensures ∙ sym (cond-true _ _ asked)) (c .before .before .put .ensures)
+    let built = c .before .before .before .before .before in
+    let flag = built .before in
+    let a = flag .before .before .before .before .args in
+    let asked = sym (flag .before .answer-asked .ensures) ∙ not-false _ (flag .if1 .left) in
+    puts-given (now (a .answer)) _ _ _ _ (built .header .ensures ∙ sym (cond-true _ _ asked)) (c .before .before .put .ensures)
 
 pub write-nak-spec : {M : Type 1} → statement M
 write-nak-spec =

@@ -9,6 +9,7 @@ use lib.Seq.{length-take-le}
 use borrow.Author.Tests.{le-leb}
 use denote.Ref.{now}
 use Rattle.rules.proofs.Tests.{cond-true}
+use Rattle.recording_playback.specs.Session.{bufferSize}
 use Rattle.recording_playback.proofs.Session.{left-over}
 use borrow.Author.Needs.{needs}
 use Rattle.recording_playback.proofs.play_held.Statement.{statement}
@@ -26,7 +27,7 @@ returns c =
     let stop = c .before .before .before .before .before .before .before .before .before .within in
     let played = c .before .play in
     let moved = c .move-down .ensures in
-    let size : length (now (a .input)) ≡ 65536 = search needs in
+    let size : length (now (a .input)) ≡ bufferSize = search needs in
     let inside : played .result .at ≤ stop .result = le-trans (played .ensures .0) (length-part _ _) in
     let whole : stop .result ≤ length (now (a .input)) = omega (arith, size, stop .ensures) in
     let held = moved .0 ∙ cond-true _ _ (le-leb (stop .result) (length (now (a .input))) whole) in

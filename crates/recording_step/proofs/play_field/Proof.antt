@@ -1,34 +1,57 @@
 -- `recording_step::play_field` meets its contract: each tag has its call, with the words that stand, and no more.
-use mathlib.Core.Path.{sym}
+use Prim.Native.Nat.{ℕ}
+use mathlib.Core.Path.{_≡_, sym, subst⁻¹}
+use mathlib.Core.List.{List}
 use native.Mathlib.Omega.{arith}
 use lib.Seq.{length-take-le}
 use denote.Ref.{now}
-use Rattle.recording_step.proofs.ByTag.{offer-field, status-field, message-field}
 use borrow.Author.Needs.{needs}
+use Rattle.recording_step.specs.SessionMemory.{SessionMemories}
+use Rattle.recording_step.specs.Fields.{PlayedField, list, block, description, status, message}
 use Rattle.recording_step.proofs.play_field.Statement.{statement}
 use Rattle.recording_step.proofs.play_field.Tie as tie
 
+-- the same of a tag that was tested
+tested : {tag is : ℕ} {body line line′ : List ℕ} {m m′ : SessionMemories} {n : ℕ} → tag ≡ is
+    → PlayedField is body line m m′ line′ n → PlayedField tag body line m m′ line′ n
+tested {body = body} {line = line} {line′ = line′} {m = m} {m′ = m′} {n = n} same played =
+    subst⁻¹ (λ (t : ℕ). PlayedField t body line m m′ line′ n) same played
+
 returns : tie.Need-returns
 returns c =
-    let a = c .before .before .before .before .before .before .before .before .before .args in
-    let played = c .before .before .play-offer .ensures in
-    (played .short, offer-field (a .tag) (a .count) (now (a .body)) (now (a .board)) (now (a .access)) (now (a .records)) (now (a .words)) (now (a .line)) _ _ _ _ (c .before .before .before .before .before .before .if1 .taken) played)
+    let d = c .before .before in
+    let played = d .list-line .ensures in
+    (played .prints .short, tested (d .before .before .before .before .if1 .taken) (list played))
 
 returns-2 : tie.Need-returns-2
 returns-2 c =
-    let a = c .before .before .before .before .before .before .args in
-    let taken = c .take-words .ensures in
-    (omega arith, status-field (a .tag) (a .count) (now (a .body)) (now (a .board)) (now (a .access)) (now (a .records)) (now (a .words)) (now (a .line)) _ _ (c .before .before .if2 .taken) (taken .0) (taken .1 .1))
-
-slice-aggregate-message-line : tie.Need-slice-aggregate-message-line
-slice-aggregate-message-line c =
-    let a = c .before .before .before .before .before .before .before .before .before .before .args in sym (length-take-le (a .count) (now (a .words)) (search needs))
+    let d = c .before .before in
+    let played = d .block-line .ensures in
+    (played .prints .short, tested (d .before .before .before .before .if2 .taken) (block played))
 
 returns-3 : tie.Need-returns-3
 returns-3 c =
-    let a = c .before .before .before .before .before .before .before .before .before .before .before .before .before .before .args in
-    let played = c .before .before .message-line .ensures in
-    (played .prints .short, message-field (a .tag) (a .count) (now (a .body)) (now (a .board)) (now (a .access)) (now (a .records)) (now (a .words)) (now (a .line)) _ _ _ (c .before .before .before .before .before .before .before .before .before .before .if2 .left) (c .before .before .before .before .before .before .before .before .before .before .before .if1 .left) played)
+    let d = c .before .before in
+    let played = d .board-line .ensures in
+    (played .prints .short, tested (d .before .before .before .before .if3 .taken) (description played))
+
+returns-4 : tie.Need-returns-4
+returns-4 c =
+    let taken = c .take-words .ensures in
+    (omega arith, tested (c .before .before .if4 .taken) (status (taken .1 .1) (taken .0)))
+
+slice-aggregate-message-line : tie.Need-slice-aggregate-message-line
+slice-aggregate-message-line c =
+    let other = c .before .before .before .before .before .before in
+    let a = other .before .before .before .before .before .before .args in
+    sym (length-take-le (a .count) (now (a .words)) (search needs))
+
+returns-5 : tie.Need-returns-5
+returns-5 c =
+    let d = c .before .before in
+    let played = d .message-line .ensures in
+    let other = d .before .before .before .before .before .before .before .before in
+    (played .prints .short, message (other .before .before .before .if1 .left) (other .before .before .if2 .left) (other .before .if3 .left) (other .if4 .left) played)
 
 pub play-field-spec : {M : Type 1} → statement M
 play-field-spec =
@@ -40,7 +63,13 @@ play-field-spec =
     (λ c κs. search needs)
     (λ c. search needs)
     returns-2
+    (λ c κs. search needs)
+    (λ c. search needs)
+    returns-3
+    (λ c κs. search needs)
+    (λ c. search needs)
+    returns-4
     slice-aggregate-message-line
     (λ c κs. search needs)
     (λ c. search needs)
-    returns-3)
+    returns-5)

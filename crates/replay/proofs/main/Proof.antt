@@ -1,12 +1,13 @@
 -- `replay::main` ends: its turns are counted, up to more than any input has bytes.
 use Prim.Native.Nat.{_≤_, _-_}
+use Rattle.recording_playback.specs.Session.{bufferSize}
 use borrow.Author.Needs.{needs}
 use Rattle.replay.proofs.main.Statement.{statement}
 use Rattle.replay.proofs.main.Tie as tie
 
 abbrev Inv-loop : tie.InvT-loop
 Inv-loop board₀ access₀ records₀ words₀ input₀ output₀ stand₀ turns₀ board access records words input output stand turns =
-    stand .held ≤ 65536
+    stand .held ≤ bufferSize
 
 abbrev μ-loop : tie.MeasureT-loop
 μ-loop board₀ access₀ records₀ words₀ input₀ output₀ stand₀ turns₀ board access records words input output stand turns =

@@ -7,13 +7,14 @@ use native.Mathlib.Omega.{arith}
 use borrow.Author.Needs.{needs}
 use lib.ListN.{length, getD, set, take, drop, length-set}
 use denote.Ref.{now}
+use Rattle.recording_fields.specs.Words.{statusWords}
 use Rattle.recording_fields.proofs.Taken.{taken, taken-length, taken-at, next-word, all-words}
 use Rattle.recording_fields.proofs.words.take_words.Statement.{statement}
 use Rattle.recording_fields.proofs.words.take_words.Tie as tie
 
 abbrev Inv-loop : tie.InvT-loop
 Inv-loop body memory₀ whole i₀ memory i =
-    (i ≤ length body / 4) × (i ≤ 255) × (memory ≡ take i (taken body) ++ drop i memory₀) × (length memory ≡ 255) × (length memory₀ ≡ 255)
+    (i ≤ length body / 4) × (i ≤ statusWords) × (memory ≡ take i (taken body) ++ drop i memory₀) × (length memory ≡ statusWords) × (length memory₀ ≡ statusWords)
 
 abbrev μ-loop : tie.MeasureT-loop
 μ-loop body memory₀ whole i₀ memory i = length body / 4 - i
@@ -33,8 +34,10 @@ returns c =
 
 loop-again : tie.Need-loop-again Inv-loop μ-loop
 loop-again c =
-    let a = c .before .before .before .before .before .before .before .before .before .before .args in
-    let l = c .before .before .before .before .before .before .before .loop in
+    let at-loop = c .before .before .before .before .before .before .before in
+    let start = at-loop .before .before .before in
+    let a = start .args in
+    let l = at-loop .loop in
     let body = now (a .body) in
     let held = now (a .words) in
     let word : c .joined .result ≡ getD (taken body) (l .i) 0 =

@@ -27,55 +27,77 @@ name-three n = go (eqb n 0) (ltb n 100) refl refl
     go false false p q = rw (p, q)
 
 append-number-requires-2 : tie.Need-append-number-requires-2
-append-number-requires-2 c κs = omega (
-  arith,
-  c .before .before .before .append-number .ensures .0,
-  c .before .before .before .append-number .kept .0,
-  number-short (c .before .before .before .before .before .before .before .before .before .before .before .before .before .args .checks),
-  c .before .before .before .before .before .before .before .append .ensures .0,
-  c .before .before .before .before .before .before .before .append .kept .0,
-  ap length (c .before .before .before .before .before .before .before .before .before .before .outcome-name .ensures),
-  name-three (outcomeNumber (c .before .before .before .before .before .before .before .before .before .before .before .before .before .args .outcome)),
-)
+append-number-requires-2 c κs =
+    let at-append = c .before .before .before .before .before .before .before in
+    let at-outcome-name = at-append .before .before .before in
+    let start = at-outcome-name .before .before .before in
+    omega (
+      arith,
+      c .before .before .before .append-number .ensures .0,
+      c .before .before .before .append-number .kept .0,
+      number-short (start .args .checks),
+      at-append .append .ensures .0,
+      at-append .append .kept .0,
+      ap length (at-outcome-name .outcome-name .ensures),
+      name-three (outcomeNumber (start .args .outcome)),
+    )
 
 append-answer-requires : tie.Need-append-answer-requires
-append-answer-requires c κs = omega (
-  arith,
-  c .before .before .before .append-number2 .ensures .0,
-  c .before .before .before .append-number2 .kept .0,
-  number-short (c .before .before .before .before .before .before .before .before .before .before .before .before .before .before .before .before .before .args .micros),
-  c .before .before .before .before .before .before .before .append-number .ensures .0,
-  c .before .before .before .before .before .before .before .append-number .kept .0,
-  number-short (c .before .before .before .before .before .before .before .before .before .before .before .before .before .before .before .before .before .args .checks),
-  c .before .before .before .before .before .before .before .before .before .before .before .append .ensures .0,
-  c .before .before .before .before .before .before .before .before .before .before .before .append .kept .0,
-  ap length (c .before .before .before .before .before .before .before .before .before .before .before .before .before .before .outcome-name .ensures),
-  name-three (outcomeNumber (c .before .before .before .before .before .before .before .before .before .before .before .before .before .before .before .before .before .args .outcome)),
-)
+append-answer-requires c κs =
+    let at-append-number = c .before .before .before .before .before .before .before in
+    let at-append = at-append-number .before .before .before .before in
+    let at-outcome-name = at-append .before .before .before in
+    let start = at-outcome-name .before .before .before in
+    omega (
+      arith,
+      c .before .before .before .append-number2 .ensures .0,
+      c .before .before .before .append-number2 .kept .0,
+      number-short (start .args .micros),
+      at-append-number .append-number .ensures .0,
+      at-append-number .append-number .kept .0,
+      number-short (start .args .checks),
+      at-append .append .ensures .0,
+      at-append .append .kept .0,
+      ap length (at-outcome-name .outcome-name .ensures),
+      name-three (outcomeNumber (start .args .outcome)),
+    )
 
 append-requires-2 : tie.Need-append-requires-2
-append-requires-2 c κs = omega (
-  arith,
-  c .before .before .before .before .append-answer .ensures .0,
-  c .before .before .before .before .append-answer .kept .0,
-  answer-short (now (c .before .before .before .before .before .before .before .before .before .before .before .before .before .before .before .before .before .before .before .before .before .before .args .bytes)) (c .before .before .before .before .before .before .before .before .before .before .before .before .before .before .before .before .before .before .before .before .before .before .pre .1),
-  c .before .before .before .before .before .before .before .before .append-number2 .ensures .0,
-  c .before .before .before .before .before .before .before .before .append-number2 .kept .0,
-  number-short (c .before .before .before .before .before .before .before .before .before .before .before .before .before .before .before .before .before .before .before .before .before .before .args .micros),
-  c .before .before .before .before .before .before .before .before .before .before .before .before .append-number .ensures .0,
-  c .before .before .before .before .before .before .before .before .before .before .before .before .append-number .kept .0,
-  number-short (c .before .before .before .before .before .before .before .before .before .before .before .before .before .before .before .before .before .before .before .before .before .before .args .checks),
-  c .before .before .before .before .before .before .before .before .before .before .before .before .before .before .before .before .append .ensures .0,
-  c .before .before .before .before .before .before .before .before .before .before .before .before .before .before .before .before .append .kept .0,
-  ap length (c .before .before .before .before .before .before .before .before .before .before .before .before .before .before .before .before .before .before .before .outcome-name .ensures),
-  name-three (outcomeNumber (c .before .before .before .before .before .before .before .before .before .before .before .before .before .before .before .before .before .before .before .before .before .before .args .outcome)),
-)
+append-requires-2 c κs =
+    let at-append-answer = c .before .before .before .before in
+    let at-append-number2 = at-append-answer .before .before .before .before in
+    let at-append-number = at-append-number2 .before .before .before .before in
+    let at-append = at-append-number .before .before .before .before in
+    let at-outcome-name = at-append .before .before .before in
+    let start = at-outcome-name .before .before .before in
+    omega (
+      arith,
+      at-append-answer .append-answer .ensures .0,
+      at-append-answer .append-answer .kept .0,
+      answer-short (now (start .args .bytes)) (start .pre .1),
+      at-append-number2 .append-number2 .ensures .0,
+      at-append-number2 .append-number2 .kept .0,
+      number-short (start .args .micros),
+      at-append-number .append-number .ensures .0,
+      at-append-number .append-number .kept .0,
+      number-short (start .args .checks),
+      at-append .append .ensures .0,
+      at-append .append .kept .0,
+      ap length (at-outcome-name .outcome-name .ensures),
+      name-three (outcomeNumber (start .args .outcome)),
+    )
 
 returns : tie.Need-returns
 returns c =
-    let a = c .before .before .before .before .before .before .before .before .before .before .before .before .before .before .before .before .before .before .before .before .before .before .before .before .before .args in
+    let at-append-answer = c .before .before .before .before .before .before .before in
+    let at-append-number2 = at-append-answer .before .before .before .before in
+    let at-append-number = at-append-number2 .before .before .before .before in
+    let at-append = at-append-number .before .before .before .before in
+    let at-outcome-name = at-append .before .before .before in
+    let start = at-outcome-name .before .before .before in
+    let a = start .args in
     let held = now (a .line) in
-    let size = c .before .before .before .before .before .before .before .before .before .before .before .before .before .before .before .before .before .before .before .before .before .before .before .before .before .pre .0 in
+    let size = start .pre .0 in
     let name = outcomeName (outcomeNumber (a .outcome)) ++ (32 ∷ []) in
     let checks = decimalOf (a .checks) ++ (32 ∷ []) in
     let micros = decimalOf (a .micros) ++ (32 ∷ []) in
@@ -83,14 +105,14 @@ returns c =
     let l1 = name-three (outcomeNumber (a .outcome)) in
     let l2 = number-short (a .checks) in
     let l3 = number-short (a .micros) in
-    let l4 = answer-short (now (a .bytes)) (c .before .before .before .before .before .before .before .before .before .before .before .before .before .before .before .before .before .before .before .before .before .before .before .before .before .pre .1) in
+    let l4 = answer-short (now (a .bytes)) (start .pre .1) in
     let s2 = length-append name checks in
     let s3 = length-append (name ++ checks) micros in
     let s4 = length-append (name ++ checks ++ micros) answer in
-    let told = c .before .before .before .before .before .before .before .before .before .before .before .before .before .before .before .before .before .before .before .before .before .before .outcome-name .ensures in
-    let p2 = laid-both held _ _ 0 _ _ name checks (omega arith) (rw told at (c .before .before .before .before .before .before .before .before .before .before .before .before .before .before .before .before .before .before .before .append .ensures .0)) (rw told at (c .before .before .before .before .before .before .before .before .before .before .before .before .before .before .before .before .before .before .before .append .ensures .1)) (c .before .before .before .before .before .before .before .before .before .before .before .before .before .before .before .append-number .ensures .0) (c .before .before .before .before .before .before .before .before .before .before .before .before .before .before .before .append-number .ensures .1) in
-    let p3 = laid-both held _ _ 0 _ _ (name ++ checks) micros (omega arith) (p2 .0) (p2 .1) (c .before .before .before .before .before .before .before .before .before .before .before .append-number2 .ensures .0) (c .before .before .before .before .before .before .before .before .before .before .before .append-number2 .ensures .1) in
-    let p4 = laid-both held _ _ 0 _ _ (name ++ checks ++ micros) answer (omega arith) (p3 .0) (p3 .1) (c .before .before .before .before .before .before .before .append-answer .ensures .0) (c .before .before .before .before .before .before .before .append-answer .ensures .1) in
+    let told = at-outcome-name .outcome-name .ensures in
+    let p2 = laid-both held _ _ 0 _ _ name checks (omega arith) (rw told at (at-append .append .ensures .0)) (rw told at (at-append .append .ensures .1)) (at-append-number .append-number .ensures .0) (at-append-number .append-number .ensures .1) in
+    let p3 = laid-both held _ _ 0 _ _ (name ++ checks) micros (omega arith) (p2 .0) (p2 .1) (at-append-number2 .append-number2 .ensures .0) (at-append-number2 .append-number2 .ensures .1) in
+    let p4 = laid-both held _ _ 0 _ _ (name ++ checks ++ micros) answer (omega arith) (p3 .0) (p3 .1) (at-append-answer .append-answer .ensures .0) (at-append-answer .append-answer .ensures .1) in
     let p5 = laid-both held _ _ 0 _ _ (name ++ checks ++ micros ++ answer) (10 ∷ []) (omega arith) (p4 .0) (p4 .1) (c .before .before .append2 .ensures .0) (c .before .before .append2 .ensures .1) in
     let s5 = length-append (name ++ checks ++ micros ++ answer) (10 ∷ []) in
     let end = p5 .0 in

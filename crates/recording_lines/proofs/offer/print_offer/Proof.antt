@@ -9,7 +9,7 @@ use denote.Ref.{now}
 use Rattle.rules.specs.Verdict.{verdictNumber}
 use Rattle.recording_texts.specs.Names.{verdictLine}
 use Rattle.recording_texts.proofs.Lines.{text-short, text-is}
-use Rattle.recording_texts.specs.Texts.{hasRoom}
+use Rattle.recording_texts.specs.Texts.{lineSize, hasRoom}
 use Rattle.recording_texts.proofs.Printing.{nothing-printed}
 use Rattle.recording_lines.specs.Offers.{offerLine}
 use Rattle.recording_lines.proofs.Offers.{put-count, put-over, offer-printed}
@@ -19,7 +19,7 @@ use Rattle.recording_lines.proofs.offer.print_offer.Tie as tie
 
 returns : tie.Need-returns
 returns c =
-    nothing-printed _ _ (hasRoom (now (c .before .before .before .args .line))) (lt-leb 96 _ (c .if1 .taken))
+    nothing-printed _ _ (hasRoom (now (c .before .before .before .args .line))) (lt-leb lineSize _ (c .if1 .taken))
 
 sub-put : tie.Need-sub-put
 sub-put c =

@@ -19,6 +19,7 @@ use Rattle.recording_fields.proofs.Finds.{whole-ends}
 use Rattle.recording_playback.specs.Ends.{isBad}
 use Rattle.recording_playback.specs.Room.{placeIn}
 use Rattle.recording_playback.specs.Next.{waits, FieldComes}
+use Rattle.recording_texts.specs.Texts.{lineSize}
 use borrow.Author.Needs.{needs}
 use Rattle.recording_playback.proofs.finding.next_field.Statement.{statement}
 use Rattle.recording_playback.proofs.finding.next_field.Tie as tie
@@ -37,7 +38,7 @@ not-whole found key tag n is = miss (1 ∷ 2 ∷ 3 ∷ []) 0 tt (subst (λ (f : 
 
 -- a whole field ends within the input
 field-comes : (input out : List ℕ) (at used tag n place : ℕ) → Whole tag n ≡ foundAt input at → place ≡ placeIn out used
-    → (96 ≤ length out → place + 96 ≤ length out) → FieldComes input at out used tag (at + 3 + n) place
+    → (lineSize ≤ length out → place + lineSize ≤ length out) → FieldComes input at out used tag (at + 3 + n) place
 field-comes input out at used tag n place is line fits =
     record {
       whole = sym is ∙ ap (Whole tag) (sym (add-sub-cancel-left (at + 3) n));

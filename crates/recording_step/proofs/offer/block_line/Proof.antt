@@ -11,9 +11,12 @@ returns c = offer-refused _ _ _ _ _ _ (c .if1 .taken)
 
 returns-2 : tie.Need-returns-2
 returns-2 c =
-    let line = now (c .before .before .before .before .before .before .before .before .before .args .line) in
-    let call = c .before .before .before .before .offer-block in
-    offer-played blockWord _ _ _ _ line _ _ (call .result .verdict) (call .result .host) _ (c .before .before .before .before .before .before .if1 .left)
+    let at-offer-block = c .before .before .before .before in
+    let at-if1 = at-offer-block .before .before in
+    let start = at-if1 .before .before .before in
+    let line = now (start .args .line) in
+    let call = at-offer-block .offer-block in
+    offer-played blockWord _ _ _ _ line _ _ (call .result .verdict) (call .result .host) _ (at-if1 .if1 .left)
     (call .ensures .verdict) (call .ensures .host) (call .ensures .access-after) (c .before .before .print-block .ensures)
 
 pub block-line-spec : {M : Type 1} → statement M

@@ -12,9 +12,11 @@ returns c = offer-refused _ _ _ _ _ _ (c .if1 .taken)
 
 returns-2 : tie.Need-returns-2
 returns-2 c =
-    let line = now (c .before .before .before .before .before .before .before .before .before .args .line) in
+    let at-if1 = c .before .before .before .before .before .before in
+    let start = at-if1 .before .before .before in
+    let line = now (start .args .line) in
     let call = c .before .before .before .offer-board in
-    offer-played boardWord _ 0 _ _ line _ _ (call .result) 0 _ (c .before .before .before .before .before .before .if1 .left) (call .ensures .verdict) refl (call .ensures .memory-after)
+    offer-played boardWord _ 0 _ _ line _ _ (call .result) 0 _ (at-if1 .if1 .left) (call .ensures .verdict) refl (call .ensures .memory-after)
     (c .before .before .print-board .ensures)
 
 pub board-line-spec : {M : Type 1} → statement M

@@ -1,14 +1,14 @@
 -- `wire::put` meets its contract. The loop's invariant: the first i bytes are copied, and the buffer is as long as it was.
-use Prim.Native.Nat.{ℕ, suc, _≤_, _-_}
+use Prim.Native.Nat.{ℕ, _≤_, _-_}
 use mathlib.Core.Path.{_≡_, refl, sym, ap, _∙_}
 use mathlib.Core.List.{List, _++_}
-use native.Mathlib.Nat.{zero-add}
 use native.Mathlib.Numerals.{add-one}
 use native.Mathlib.Omega.{arith}
 use borrow.Author.Tests.{le-leb, lt-leb}
 use lib.ListN.{length, getD, set, take, drop, length-set}
-use lib.Seq.{paste-suc, take-length}
+use lib.Seq.{take-length}
 use denote.Ref.{now}
+use Rattle.wire.proofs.Moved.{laid-more}
 use Rattle.wire.proofs.write.put.Statement.{statement}
 use Rattle.wire.proofs.write.put.Tie as tie
 
@@ -18,11 +18,6 @@ Inv-loop buffer₀ bytes i₀ buffer i =
 
 abbrev μ-loop : tie.MeasureT-loop
 μ-loop buffer₀ bytes i₀ buffer i = length bytes - i
-
--- a turn's store takes the copy of i bytes to the copy of i + 1
-copied : (d s : List ℕ) (i : ℕ) → suc i ≤ length d → suc i ≤ length s
-    → set (take i s ++ drop i d) i (getD s i 0) ≡ take (suc i) s ++ drop (suc i) d
-copied d s i hd hs = simp zero-add at (paste-suc d 0 s i 0 (simp zero-add hd) hs)
 
 returns : tie.Need-returns Inv-loop μ-loop
 returns c = let no-room = lt-leb _ _ (c .if1 .taken) in (rw no-room, rw no-room)
@@ -37,7 +32,7 @@ loop-again c =
     let s = now (c .before .before .before .before .args .bytes) in (
       omega arith,
       ap (λ (l : List ℕ). set l i (getD s i 0)) (c .before .before .loop .inv .1)
-          ∙ copied d s i (omega arith) (omega arith)
+          ∙ laid-more d s i (omega arith) (omega arith)
           ∙ ap (λ (n : ℕ). take n s ++ drop n d) (sym (add-one i)),
       length-set (c .before .before .loop .buffer) i (getD s i 0) ∙ c .before .before .loop .inv .2,
     )

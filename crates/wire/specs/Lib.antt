@@ -1,0 +1,2 @@
+-- Tagged fields.
+pub mod Tagged
