@@ -28,7 +28,7 @@ use Rattle.access.specs.Memory.{accessSize, setupIn}
 use Rattle.record.specs.Memory.{recordSize, memories, recordAt, recordsIn, stateIn, viewIn}
 use Rattle.record.proofs.LentMemory.{record-length, record-same, store-same, records-store, view-in}
 use Rattle.message_operation.specs.declared.Decision.{Decision}
-use Rattle.message_operation.specs.Operation.{asked, rowIn, memoryAfter, decisionOn, Decides}
+use Rattle.message_operation.specs.Operation.{rowIn, memoryAfter, decisionOn, Decides}
 use Rattle.message_answer.specs.Puts.{fitted, Puts}
 use Rattle.message_answer.proofs.Answers.{fitted-none, bytes-silent, bytes-short, bytes-after}
 use Rattle.call_message.specs.Calls.{lending, MessageCall}
@@ -108,20 +108,20 @@ module _ (board a m : List ℕ) (channel : ℕ) (bytes words held : List ℕ) (l
       (decide (carriedOut o))
 
   -- the answer needs neither the channel nor the room
-  plain-query : (o : Outcome) (r : Record) → answerBytes o (asked 0 bytes words) r ≡ answerBytes o q r
+  plain-query : (o : Outcome) (r : Record) → answerBytes o (query 0 bytes words 0) r ≡ answerBytes o q r
   unfolding answerBytes bytesFor ackBytes
   plain-query o r = refl
 
   pub message-call : (d : Decision) (n : ℕ) (m′ held′ : List ℕ)
       → Decides outcomeTable (kindIn bytes) (memories board a m) q m′ d
-      → Puts (answerBytes (d .outcome) (asked 0 bytes words) (recordAt b m′ (rowIn b (asked 0 bytes words)))) held held′ n
+      → Puts (answerBytes (d .outcome) (query 0 bytes words 0) (recordAt b m′ (rowIn b (query 0 bytes words 0)))) held held′ n
       → MessageCall (memories board a m) (lending channel bytes words held) m′ held′
       (record { outcome = d .outcome; checks = d .checks; micros = d .micros; written = n; role = d .role })
   unfolding stateIn answerTo next afterMessage stored reportOf decisionOn subjectOf setupIn outcomeOf
   message-call d n m′ held′ decides puts =
       let is : d .outcome ≡ outcomeOf v q = ap (λ (x : Decision). x .outcome) (decides .decision) in
       let left : m′ ≡ memoryAfter b (kindIn bytes) (outcomeOf v q) m q = decides .records ∙ ap (λ (o : Outcome). memoryAfter b (kindIn bytes) o m q) is in
-      let fits : fitted (length held) (answerBytes (d .outcome) (asked 0 bytes words) (recordAt b m′ (rowIn b (asked 0 bytes words)))) ≡ answerOf v q =
+      let fits : fitted (length held) (answerBytes (d .outcome) (query 0 bytes words 0) (recordAt b m′ (rowIn b (query 0 bytes words 0)))) ≡ answerOf v q =
       ap (fitted (length held))
       (plain-query (d .outcome) _
       ∙ ap (λ (o : Outcome). answerBytes o q (recordAt b m′ (rowIn b q))) is

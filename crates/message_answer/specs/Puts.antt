@@ -6,15 +6,16 @@ use mathlib.Core.List.{List, []}
 use lib.ListN.{length}
 use lib.Dec.{leb}
 use Rattle.rules.specs.declared.Outcome.{Outcome}
+use Rattle.rules.specs.Message.{query}
 use Rattle.rules.specs.Answer.{answerBytes, bufferAfter}
 use Rattle.board.specs.Memory.{boardIn}
 use Rattle.record.specs.Memory.{recordAt}
-use Rattle.message_operation.specs.Operation.{asked, rowIn}
+use Rattle.message_operation.specs.Operation.{rowIn}
 
--- the answer to a message with this outcome, where board and record memory hold these words
+-- the answer to a message with this outcome, where board and record memory hold these words; it depends neither on the channel nor on the room
 abbrev pub answerIn : List ℕ → List ℕ → Outcome → List ℕ → List ℕ → List ℕ
 answerIn board records outcome message status =
-    let q = asked 0 message status in
+    let q = query 0 message status 0 in
     answerBytes outcome q (recordAt (boardIn board) records (rowIn (boardIn board) q))
 
 -- the bytes, where they fit the room

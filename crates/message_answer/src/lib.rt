@@ -15,14 +15,13 @@ use crate::bytes::header;
 use crate::bytes::status_answer;
 use board::BoardMemory;
 use message_fields::answer_asked;
-use message_fields::kind_of;
+use message_fields::kind_in;
 use message_operation::row_in;
 use record::record_at;
 use result_numbers::outcome_number;
 use rules::Kind;
 use rules::Outcome;
 use wire::put;
-use wire::u16_at;
 
 // The first status word, which is the status now; 0 where there is none.
 fn status_now(status: &[u32]) -> u32
@@ -51,7 +50,7 @@ fn write_ack(
     if !answer_asked(message) {
         return 0;
     }
-    let kind = kind_of(u16_at(message, 0));
+    let kind = kind_in(message);
     if let Kind::GetStatus = kind {
         let state = record_at(board, records, row_in(board, message));
         let bytes = status_answer(message, state, status_now(status));

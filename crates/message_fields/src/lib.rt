@@ -57,7 +57,7 @@ pub const CONTROL_SET: usize = 9;
 pub const CONTROL_CLEAR: usize = 13;
 
 // What a message asks for, by the number of its type.
-pub fn kind_of(number: u16) -> Kind
+fn kind_of(number: u16) -> Kind
     ensures { λ r. ⌜ r ≡ kindOf number ⌝ }
 {
     match number {

@@ -18,8 +18,7 @@ use Rattle.rules.specs.declared.Role.the-variants.{None}
 use Rattle.rules.specs.Table.{firstOf}
 use Rattle.rules.specs.Board.{Board, rows, rowOf, onBoard, classAt, classOf, homeAt}
 use Rattle.rules.specs.Role.{roleOf}
-use Rattle.rules.specs.Bytes.{u16At}
-use Rattle.rules.specs.Message.{Query, kindOf, kindIn, sizeOf, isKind, processorOf, subjectOf}
+use Rattle.rules.specs.Message.{Query, sizeOf, isKind, processorOf, subjectOf}
 use Rattle.rules.specs.Outcome.{View, tooShort, notOffered, senderRole, hasRight, operandsGood, wordsMissing, waitFailed, behindType, byWords, fromN4, carriedOut, outcomeNumber}
 use Rattle.rules.specs.Effect.{effectOf}
 use Rattle.rules.specs.Answer.{okOr, waited, tellsRole}
@@ -39,10 +38,6 @@ told-true is h = sym is ∙ not-false _ h
 
 pub told-false : {x t : Bool} → x ≡ t → not x ≡ true → t ≡ false
 told-false is h = sym is ∙ not-true _ h
-
--- the type that the code has read
-pub told-kind : (m : List ℕ) {k r : Kind} {n : ℕ} → r ≡ kindOf n → n ≡ u16At m 0 → r ≡ k → kindIn m ≡ k
-told-kind m found read is = sym (found ∙ ap kindOf read) ∙ is
 
 -- ---- the board's rows, as the code tests them
 

@@ -10,7 +10,7 @@ use Rattle.rules.specs.declared.Outcome.the-variants.{Ok}
 use Rattle.rules.specs.declared.Role.the-variants.{None}
 use Rattle.rules.specs.Table.{Line, firstOf}
 use Rattle.rules.specs.Board.{Board, rowOf}
-use Rattle.rules.specs.Message.{Query, query, subjectOf, waitIn}
+use Rattle.rules.specs.Message.{Query, subjectOf, waitIn}
 use Rattle.rules.specs.Wait.{checksOf, microsOf}
 use Rattle.rules.specs.Outcome.{View, senderRole, fromN4, carriedOut}
 use Rattle.rules.specs.Effect.{effectOf}
@@ -18,10 +18,6 @@ use Rattle.rules.specs.Answer.{waited, tellsRole}
 use Rattle.board.specs.Memory.{boardIn}
 use Rattle.record.specs.Memory.{Memories, recordAt, viewIn, withRecord}
 use Rattle.message_operation.specs.declared.Decision.{Decision}
-
--- what these rows ask of a message: the answer room is not among it
-abbrev pub asked : ℕ → List ℕ → List ℕ → Query
-asked channel message status = query channel message status 0
 
 -- the row of the processor whose record the call works on
 abbrev pub rowIn : Board → Query → ℕ

@@ -5,7 +5,6 @@ use borrow.Author.Tests.{not-true, not-false}
 use types.Run.{miss}
 use denote.Ref.{now}
 use Rattle.rules.specs.Message.{subjectOf}
-use Rattle.message_operation.proofs.Rows.{told-kind}
 use Rattle.message_answer.proofs.Answers.{puts-none, puts-given, bytes-unasked, bytes-status, bytes-ack, not-status}
 use borrow.Author.Needs.{needs}
 use Rattle.message_answer.proofs.write_ack.Statement.{statement}
@@ -19,10 +18,10 @@ unfolding subjectOf
 returns-2 c =
     let built = c .before .before .before .before .before in
     let told = built .before .before .before .before in
-    let flag = told .before .before .before .before in
+    let flag = told .before .before .before in
     let a = flag .before .before .before .before .before .before .args in
     let asked = sym (flag .before .answer-asked .ensures) ∙ not-false _ (flag .if1 .left) in
-    let is = told-kind (now (a .message)) (told .before .before .kind-of .ensures) (told .before .before .before .u16-at .ensures) (told .enum-told .given .1) in
+    let is = sym (told .before .before .kind-in .ensures) ∙ told .enum-told .given .1 in
     puts-given (now (a .answer)) _ _ _ _
     ((rw (
       built .before .status-now .ensures,
@@ -36,12 +35,12 @@ returns-3 : tie.Need-returns-3
 returns-3 c =
     let built = c .before .before .before .before .before in
     let kind = built .before .before in
-    let flag = kind .before .before in
+    let flag = kind .before in
     let a = flag .before .before .before .before .before .before .args in
     let asked = sym (flag .before .answer-asked .ensures) ∙ not-false _ (flag .if1 .left) in
-    let other = not-status (kind .kind-of .result) (λ is. miss (0 ∷ 1 ∷ 2 ∷ 3 ∷ 4 ∷ 5 ∷ 7 ∷ 8 ∷ []) 6 tt (rw is at (built .before .match .keys2))) in
+    let other = not-status (kind .kind-in .result) (λ is. miss (0 ∷ 1 ∷ 2 ∷ 3 ∷ 4 ∷ 5 ∷ 7 ∷ 8 ∷ []) 6 tt (rw is at (built .before .match .keys2))) in
     puts-given (now (a .answer)) _ _ _ _
-    (built .header .ensures ∙ sym (bytes-ack _ _ asked (rw (kind .kind-of .ensures, kind .before .u16-at .ensures) at other)))
+    (built .header .ensures ∙ sym (bytes-ack _ _ asked (rw (kind .kind-in .ensures) at other)))
     (c .before .before .put2 .ensures)
 
 pub write-ack-spec : {M : Type 1} → statement M
@@ -50,7 +49,6 @@ write-ack-spec =
     (tie.spec
     (λ c κs. search needs)
     returns
-    (λ c κs. search needs)
     (λ c κs. search needs)
     (λ c. search needs)
     (λ c κs. search needs)
