@@ -12,7 +12,8 @@ use lib.Dec.{eqb, ltb}
 use borrow.Author.Tests.{eqb-true, eq-eqb, ltb-true, ltb-false, lt-ltb}
 use Rattle.rules.specs.Table.{anyOf, placeOf, allOf, allFrom, tableOf}
 use Rattle.rules.specs.Board.{Board, rows, rowOf, onBoard}
-use Rattle.rules.specs.Description.{Processor, Description, numbered, listsProcessor, rowIn, givesRows, boardOf}
+use Rattle.rules.specs.Description.{Processor, Description, numbered, listsProcessor, rowIn, givesRows, boardOf, ours, ourDescription}
+use Rattle.rules.specs.BenchBoard.{ourRows}
 use Rattle.rules.proofs.Tests.{decide, clash, cond-true, cond-false, and-left, and-right, and-both, or-cases, allFrom-gives}
 use Rattle.rules.proofs.Tables.{table-length, table-past, table-gives}
 
@@ -83,6 +84,21 @@ filled-gives d = and-both (eq-eqb _ 256 (table-length (rowIn d) 256 0)) (table-g
 pub row-rule : (d : Description) (p : ℕ) → p < 256 → rowOf (boardOf d) p ≡ rowIn d p
 unfolding rowOf
 row-rule d p h = table-rule d (boardOf d .places) (filled-gives d) p h
+
+-- ---- the table of document 01's board
+
+-- the test is computed on the table as it is written out, and that is the table which the description of document 01's board fills
+pub our-table-gives : givesRows ourDescription ourRows ≡ true
+unfolding givesRows allFrom ourDescription listsProcessor rowIn anyOf placeOf
+our-table-gives = refl
+
+pub our-table-filled : ours .places ≡ ourRows
+unfolding ours boardOf tableOf ourDescription listsProcessor rowIn anyOf placeOf
+our-table-filled = refl
+
+-- so the table gives the row of each processor byte, or the mark for none
+pub our-table-rule : (p : ℕ) → p < 256 → getD ourRows p rows ≡ rowIn ourDescription p
+our-table-rule p h = table-rule ourDescription ourRows our-table-gives p h
 
 -- ---- a processor on the board
 

@@ -6,10 +6,18 @@ use lib.ListN.{replicate}
 use Rattle.rules.specs.declared.Outcome.the-variants.{N2, N6, N7, N8, Ok}
 use Rattle.rules.specs.declared.Verdict.{Verdict}
 use Rattle.rules.specs.declared.Verdict.the-variants.{Accepted, A1, A5, D1, D2, D3, D4, D5, D6}
+use Rattle.rules.specs.Board.{rows}
 use Rattle.rules.specs.Description.{ourBytes}
 use Rattle.rules.specs.Call.{board, list, Call, offer}
 use Rattle.rules.specs.Bench.{benchList, header, verdict, answer, Case, heldWith}
 use Rattle.rules.specs.BenchCluster.{request, setControl, getStatus, statusOf, recordWith}
+
+-- ---- the table of rows of document 01's board
+
+-- written out, a number for each of the 256 processor bytes: 1 and 2 have rows 0 and 1, 32 and 33 rows 2 and 3, every other the mark for none. The
+-- test over the whole table (`givesRows`) is computed on it in proofs/Rows.antt
+abbrev pub ourRows : List ℕ
+ourRows = (rows ∷ 0 ∷ 1 ∷ []) ++ (replicate 29 rows ++ (2 ∷ 3 ∷ replicate 222 rows))
 
 -- ---- the descriptions of the cases
 
