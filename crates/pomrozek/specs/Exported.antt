@@ -13,21 +13,25 @@ use Rattle.record.specs.Memory.{Memories}
 use Rattle.call_offer.specs.Calls.{BlockCall, BoardCall, ListCall}
 use Rattle.call_message.specs.Calls.{MessageCall}
 
+-- a verdict told as its number
+abbrev pub TellsVerdict : ℕ → Verdict → Type 0
+TellsVerdict r told = r ≡ verdictNumber told
+
 pub record ExportedBoard (board access bytes board′ : List ℕ) (r : ℕ) : Type 0 where
   pub told : Verdict
   pub meets : BoardCall board access bytes board′ told
-  pub number : r ≡ verdictNumber told
+  pub number : TellsVerdict r told
 
 pub record ExportedList (board access bytes access′ : List ℕ) (r : ℕ) : Type 0 where
   pub told : Verdict
   pub meets : ListCall board access bytes access′ told
-  pub number : r ≡ verdictNumber told
+  pub number : TellsVerdict r told
 
 -- the loop word is the host of B8, and 0 with any other verdict
 pub record ExportedBlock (board access : List ℕ) (major minor : ℕ) (bytes access′ loop′ : List ℕ) (r : ℕ) : Type 0 where
   pub told : BlockReport
   pub meets : BlockCall board access major minor bytes access′ told
-  pub number : r ≡ verdictNumber (told .verdict)
+  pub number : TellsVerdict r (told .verdict)
   pub host : loop′ ≡ told .host ∷ []
 
 -- checks, microseconds, bytes written and the role's number, in this order
