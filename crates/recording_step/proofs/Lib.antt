@@ -1,3 +1,4 @@
 -- What the proofs of this crate share.
 pub mod Messages
 pub mod Offers
+pub mod Tags

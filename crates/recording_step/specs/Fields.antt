@@ -1,8 +1,10 @@
 -- How a whole field is carried out, by its tag.
 use Prim.Native.Nat.{ℕ}
 use mathlib.Core.Path.{_≡_}
+use mathlib.Core.Bool.{Bool, not, _||_}
 use mathlib.Core.List.{List}
 use lib.ListN.{length, take}
+use lib.Dec.{eqb}
 use Rattle.rules.specs.Answer.{bufferAfter}
 use Rattle.board.specs.Memory.{boardIn}
 use Rattle.recording_fields.specs.Tags.{listTag, statusTag, blockTag, boardTag}
@@ -14,6 +16,10 @@ use Rattle.recording_step.specs.SessionMemory.{SessionMemories, memories
 -- as many of a field's status words as there is room for
 abbrev pub wordsTaken : List ℕ → List ℕ
 wordsTaken body = take statusWords (statusWordsOf body)
+
+-- a tag that is no offer's and not that of status words is a message's
+abbrev pub isMessage : ℕ → Bool
+isMessage tag = not (eqb tag listTag || eqb tag statusTag || eqb tag blockTag || eqb tag boardTag)
 
 -- a field of this tag and body, with these memories and this line before and after it, and the line's length: a list, a block and a board
 -- description are offered; status words stand from now on, and nothing is printed; any other is a message with the words that stand. What

@@ -17,9 +17,10 @@ use recording_fields::TAG_LIST;
 use recording_fields::TAG_STATUS;
 use recording_fields::take_words;
 ghost use Prim.Native.Nat.{_≤_};
+ghost use mathlib.Core.Path.{_≡_};
 ghost use Rattle.recording_texts.specs.Texts.{lineSize};
 ghost use Rattle.recording_step.specs.SessionMemory.{memories};
-ghost use Rattle.recording_step.specs.Fields.{PlayedField};
+ghost use Rattle.recording_step.specs.Fields.{isMessage, PlayedField};
 
 // What a field leaves: the length of the line it printed, and how many status words stand.
 pub struct Played {
@@ -27,8 +28,14 @@ pub struct Played {
     pub words: u8,
 }
 
-// Carries out a whole field, and writes the line that it prints, if any, over the start of `line`. What is
-// no offer and no status words is a message.
+// Whether a field is a message: what is no offer and no status words. Most fields are, so one test comes first.
+fn is_message(tag: u8) -> bool
+    ensures { λ r. ⌜ r ≡ isMessage tag ⌝ }
+{
+    !((tag == TAG_LIST) | (tag == TAG_STATUS) | (tag == TAG_BLOCK) | (tag == TAG_BOARD))
+}
+
+// Carries out a whole field, and writes the line that it prints, if any, over the start of `line`.
 pub fn play_field(
     board: &mut BoardMemory,
     access: &mut AccessMemory,
@@ -47,6 +54,15 @@ pub fn play_field(
         (now (line .exit)) (r .line)
         ⌝ }
 {
+    if is_message(tag) {
+        let status = &words[..];
+        let standing = count as usize;
+        let printed = message_line(board, access, records, body, &status[..standing], line);
+        return Played {
+            line: printed,
+            words: count,
+        };
+    }
     if tag == TAG_LIST {
         let printed = list_line(board, access, body, line);
         return Played {
@@ -68,18 +84,9 @@ pub fn play_field(
             words: count,
         };
     }
-    if tag == TAG_STATUS {
-        let taken = take_words(body, words);
-        return Played {
-            line: 0,
-            words: taken as u8,
-        };
-    }
-    let status = &words[..];
-    let standing = count as usize;
-    let printed = message_line(board, access, records, body, &status[..standing], line);
+    let taken = take_words(body, words);
     Played {
-        line: printed,
-        words: count,
+        line: 0,
+        words: taken as u8,
     }
 }
