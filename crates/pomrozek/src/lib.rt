@@ -36,7 +36,8 @@ pub extern "C" fn pomrozek_board(
     description: &[u8],
 ) -> u32
     ensures { λ r. ⌜ ExportedBoard (now (board .entry)) (now (access .entry)) (now (description .entry))
-      (now (board .exit)) r ⌝ }{
+        (now (board .exit)) r ⌝ }
+{
     verdict_number(offer_board(board, access, description))
 }
 
@@ -44,7 +45,8 @@ pub extern "C" fn pomrozek_board(
 #[no_mangle]
 pub extern "C" fn pomrozek_list(board: &BoardMemory, access: &mut AccessMemory, list: &[u8]) -> u32
     ensures { λ r. ⌜ ExportedList (now (board .entry)) (now (access .entry)) (now (list .entry))
-      (now (access .exit)) r ⌝ }{
+        (now (access .exit)) r ⌝ }
+{
     verdict_number(offer_list(board, access, list))
 }
 
@@ -60,7 +62,8 @@ pub extern "C" fn pomrozek_block(
     found: &mut [u32; 1],
 ) -> u32
     ensures { λ r. ⌜ ExportedBlock (now (board .entry)) (now (access .entry)) major minor
-      (now (block .entry)) (now (access .exit)) (now (found .exit)) r ⌝ }{
+        (now (block .entry)) (now (access .exit)) (now (found .exit)) r ⌝ }
+{
     let report = offer_block(board, access, major, minor, block);
     let words = &mut found[..];
     words[0] = report.host as u32;
@@ -90,9 +93,10 @@ pub extern "C" fn pomrozek_message(
     report: &mut [u32; 4],
 ) -> u32
     ensures { λ r. ⌜ ExportedMessage
-      (memories (now (board .entry)) (now (access .entry)) (now (records .entry)))
-      (lending channel (now (request .entry)) (now (status .entry)) (now (answer .entry)))
-      (now (records .exit)) (now (answer .exit)) (now (report .exit)) r ⌝ }{
+        (memories (now (board .entry)) (now (access .entry)) (now (records .entry)))
+        (lending channel (now (request .entry)) (now (status .entry)) (now (answer .entry)))
+        (now (records .exit)) (now (answer .exit)) (now (report .exit)) r ⌝ }
+{
     let told = message(board, access, records, channel, request, status, answer);
     let words = &mut report[..];
     words[0] = told.checks;

@@ -9,7 +9,7 @@ pub use field::find;
 pub use tag::TAG_BLOCK;
 pub use tag::TAG_BOARD;
 pub use tag::TAG_LIST;
-pub use tag::TAG_STATUS;
+pub use tag::TAG_MESSAGE;
 pub use words::STATUS_WORDS;
 pub use words::StatusWords;
 pub use words::take_words;

@@ -1,4 +1,3 @@
 -- What the proofs of this crate share.
 pub mod Messages
 pub mod Offers
-pub mod Tags

@@ -14,13 +14,12 @@ use recording_fields::StatusWords;
 use recording_fields::TAG_BLOCK;
 use recording_fields::TAG_BOARD;
 use recording_fields::TAG_LIST;
-use recording_fields::TAG_STATUS;
+use recording_fields::TAG_MESSAGE;
 use recording_fields::take_words;
 ghost use Prim.Native.Nat.{_≤_};
-ghost use mathlib.Core.Path.{_≡_};
 ghost use Rattle.recording_texts.specs.Texts.{lineSize};
 ghost use Rattle.recording_step.specs.SessionMemory.{memories};
-ghost use Rattle.recording_step.specs.Fields.{isMessage, PlayedField};
+ghost use Rattle.recording_step.specs.Fields.{PlayedField};
 
 // What a field leaves: the length of the line it printed, and how many status words stand.
 pub struct Played {
@@ -28,14 +27,8 @@ pub struct Played {
     pub words: u8,
 }
 
-// Whether a field is a message: what is no offer and no status words. Most fields are, so one test comes first.
-fn is_message(tag: u8) -> bool
-    ensures { λ r. ⌜ r ≡ isMessage tag ⌝ }
-{
-    !((tag == TAG_LIST) | (tag == TAG_STATUS) | (tag == TAG_BLOCK) | (tag == TAG_BOARD))
-}
-
-// Carries out a whole field, and writes the line that it prints, if any, over the start of `line`.
+// Carries out a whole field, and writes the line that it prints, if any, over the start of `line`. A
+// message is tested first, since most fields are one; what is neither that nor an offer is status words.
 pub fn play_field(
     board: &mut BoardMemory,
     access: &mut AccessMemory,
@@ -54,7 +47,7 @@ pub fn play_field(
         (now (line .exit)) (r .line)
         ⌝ }
 {
-    if is_message(tag) {
+    if tag == TAG_MESSAGE {
         let status = &words[..];
         let standing = count as usize;
         let printed = message_line(board, access, records, body, &status[..standing], line);

@@ -1,6 +1,8 @@
 // Little-endian numbers out of bytes, of 8, 16 and 32 bits, at any place; past the end there are zeros.
 ghost use mathlib.Core.Path.{_≡_};
-ghost use Prim.Native.Nat.{_+_, _*_, _<_};
+ghost use Prim.Native.Nat.{_+_, _*_, _<_, _≤_};
+ghost use lib.ListN.{length};
+ghost use mathlib.Core.Bool.{true, false};
 ghost use Rattle.rules.specs.Bytes.{byteAt, u16At, u32At};
 
 // A byte as a wider number.
@@ -44,18 +46,36 @@ pub fn u16_at(bytes: &[u8], at: usize) -> u16
     paired(bytes[at], byte_at(bytes, at + 1))
 }
 
-// The 32-bit number at place `at`. One test finds all four bytes there, as in every message that is
-// long enough for its type.
-pub fn u32_at(bytes: &[u8], at: usize) -> u32
+// Whether four bytes stand at place `at`. Two tests that the compiler joins to one.
+fn holds_four(count: usize, at: usize) -> bool
+    ensures { λ r. ⌜ (r ≡ true → at + 4 ≤ count) × (r ≡ false → count ≤ at + 3) ⌝ }
+{
+    if count < 4 {
+        return false;
+    }
+    at <= count - 4
+}
+
+// A 32-bit number whose end is cut, or that is past the end.
+fn cut_u32(bytes: &[u8], at: usize) -> u32
+    requires { ⌜ length (now bytes) ≤ at + 3 ⌝ }
     ensures { λ r. ⌜ r ≡ u32At (now (bytes .entry)) at ⌝ }
 {
     if bytes.len() <= at {
         return 0;
     }
-    if 3 < bytes.len() - at {
-        return joined(bytes[at], bytes[at + 1], bytes[at + 2], bytes[at + 3]);
-    }
     let b = byte_at(bytes, at + 1);
     let c = byte_at(bytes, at + 2);
     joined(bytes[at], b, c, 0)
+}
+
+// The 32-bit number at place `at`. One test finds all four bytes there, as in every message that is
+// long enough for its type.
+pub fn u32_at(bytes: &[u8], at: usize) -> u32
+    ensures { λ r. ⌜ r ≡ u32At (now (bytes .entry)) at ⌝ }
+{
+    if holds_four(bytes.len(), at) {
+        return joined(bytes[at], bytes[at + 1], bytes[at + 2], bytes[at + 3]);
+    }
+    cut_u32(bytes, at)
 }

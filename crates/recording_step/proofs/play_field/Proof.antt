@@ -1,6 +1,6 @@
 -- `recording_step::play_field` meets its contract: each tag has its call, with the words that stand, and no more.
 use Prim.Native.Nat.{ℕ}
-use mathlib.Core.Path.{_≡_, sym, subst⁻¹, _∙_}
+use mathlib.Core.Path.{_≡_, sym, subst⁻¹}
 use mathlib.Core.List.{List}
 use native.Mathlib.Omega.{arith}
 use lib.Seq.{length-take-le}
@@ -8,7 +8,6 @@ use denote.Ref.{now}
 use borrow.Author.Needs.{needs}
 use Rattle.recording_step.specs.SessionMemory.{SessionMemories}
 use Rattle.recording_step.specs.Fields.{PlayedField, list, block, description, status, message}
-use Rattle.recording_step.proofs.Tags.{other-tag, status-tag}
 use Rattle.recording_step.proofs.play_field.Statement.{statement}
 use Rattle.recording_step.proofs.play_field.Tie as tie
 
@@ -20,16 +19,14 @@ tested {body = body} {line = line} {line′ = line′} {m = m} {m′ = m′} {n 
 
 slice-aggregate-message-line : tie.Need-slice-aggregate-message-line
 slice-aggregate-message-line c =
-    let a = c .before .before .before .before .before .before .before .before .before .before .args in
+    let a = c .before .before .before .before .before .before .before .before .before .args in
     sym (length-take-le (a .count) (now (a .words)) (search needs))
 
 returns : tie.Need-returns
 returns c =
     let d = c .before .before in
-    let asked = d .before .before .before .before .before .before .before .before in
-    let other = other-tag _ (sym (asked .before .is-message .ensures) ∙ asked .if1 .taken) in
     let played = d .message-line .ensures in
-    (played .prints .short, message (other .no-list) (other .no-block) (other .no-board) (other .no-status) played)
+    (played .prints .short, tested (d .before .before .before .before .before .before .before .before .if1 .taken) (message played))
 
 returns-2 : tie.Need-returns-2
 returns-2 c =
@@ -52,19 +49,13 @@ returns-4 c =
 returns-5 : tie.Need-returns-5
 returns-5 c =
     let d = c .before .before in
-    let asked = d .before .before .before in
-    let is =
-    status-tag _ (sym (asked .before .is-message .ensures) ∙ asked .if1 .left) (d .before .before .if2 .left) (d .before .if3 .left)
-    (d .if4 .left)
-    in
     let taken = c .take-words .ensures in
-    (omega arith, tested is (status (taken .1 .1) (taken .0)))
+    (omega arith, status (d .before .before .before .if1 .left) (d .before .before .if2 .left) (d .before .if3 .left) (d .if4 .left) (taken .1 .1) (taken .0))
 
 pub play-field-spec : {M : Type 1} → statement M
 play-field-spec =
     tie.close
     (tie.spec
-    (λ c κs. search needs)
     slice-aggregate-message-line
     (λ c κs. search needs)
     (λ c. search needs)
