@@ -37,7 +37,8 @@ pub fn store_own(records: &mut RecordMemory, row: u8, state: Record)
 
 // Puts the control word of the processor at `row`, and so of its cluster, at the home.
 pub fn store_control(board: &BoardMemory, records: &mut RecordMemory, row: u8, control: u32)
-    ensures { λ _. ⌜ now (records .exit) ≡ withControlWord (now (records .entry)) (homeAt (boardIn (now (board .entry))) row) control ⌝ }
+    ensures { λ _. ⌜ now (records .exit)
+        ≡ withControlWord (now (records .entry)) (homeAt (boardIn (now (board .entry))) row) control ⌝ }
 {
     records[control_place(board, row)] = control;
 }

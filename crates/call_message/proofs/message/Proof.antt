@@ -11,8 +11,8 @@ use Rattle.call_message.proofs.message.Tie as tie
 
 returns : tie.Need-returns
 returns c =
-    let a = c .before .before .before .before .before .before .before .before .before .before .before .before .args in
     let d = c .before .before .before .before .before .before in
+    let a = d .before .before .before .before .before .before .args in
     let la : length (now (a .access)) ≡ accessSize = search needs in
     let left : length (d .decide .last .1 .1 .0) ≡ recordSize = search needs in
     let lm : length (now (a .records)) ≡ recordSize = sym (memory-length _ _ _ (now (a .records)) _) ∙ sym (ap length (d .decide .ensures .records)) ∙ left in

@@ -36,8 +36,9 @@ slice-write-words-4 c = simp length-set (omega arith)
 
 returns : tie.Need-returns
 returns c =
-    let call = c .before .before .before .before .before .before .message in
-    let a = c .before .before .before .before .before .before .before .before .before .before .before .before .args in
+    let told = c .before .before .before .before .before .before in
+    let call = told .message in
+    let a = told .before .before .before .before .before .before .args in
     record {
       told = call .result;
       meets = call .ensures;

@@ -19,7 +19,8 @@ tested {body = body} {line = line} {line′ = line′} {m = m} {m′ = m′} {n 
 
 slice-aggregate-message-line : tie.Need-slice-aggregate-message-line
 slice-aggregate-message-line c =
-    let a = c .before .before .before .before .before .before .before .before .before .args in
+    let asked = c .before .before .before .before .before .before in
+    let a = asked .before .before .before .args in
     sym (length-take-le (a .count) (now (a .words)) (search needs))
 
 returns : tie.Need-returns

@@ -43,15 +43,17 @@ run-after-requires c κs =
 
 returns-2 : tie.Need-returns-2 Inv-loop μ-loop
 returns-2 c =
-    let a = c .before .before .before .before .before .before .before .before .before .before .args in
-    let l = c .before .before .before .before .before .before .loop in
+    let turn = c .before .before .before .before .before .before in
+    let a = turn .before .before .before .before .args in
+    let l = turn .loop in
     let run = run-step (a .w) (now (a .status)) (l .checks) (l .run) _ _ (c .before .before .word-matches .ensures) (l .inv .1) (c .before .run-after .ensures) in
     add-one (l .checks) ∙ sym (run-ended (a .w) (now (a .status)) (l .checks) _ _ (omega arith) run (c .if2 .taken)) ∙ l .inv .2
 
 loop-again : tie.Need-loop-again Inv-loop μ-loop
 loop-again c =
-    let a = c .before .before .before .before .before .before .before .before .before .before .args in
-    let l = c .before .before .before .before .before .before .loop in
+    let turn = c .before .before .before .before .before .before in
+    let a = turn .before .before .before .before .args in
+    let l = turn .loop in
     let run = run-step (a .w) (now (a .status)) (l .checks) (l .run) _ _ (c .before .before .word-matches .ensures) (l .inv .1) (c .before .run-after .ensures) in
     let more = add-one (l .checks) in (
       omega arith,
