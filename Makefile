@@ -1,5 +1,5 @@
 # `make demo` proves and builds the replay program and replays the worked sessions; `make test` passes everything.
-.PHONY: demo test quick measure index
+.PHONY: demo test quick measure index sizes
 
 demo:
 	@scripts/in-memory scripts/demo
@@ -19,3 +19,7 @@ measure:
 # Every public function and every must-fail edit, listed from the sources in target/index.
 index:
 	@scripts/index
+
+# The sizes that a landing note states.
+sizes:
+	@scripts/sizes
