@@ -1,4 +1,3 @@
--- What the proofs of this crate share.
 -- What the proofs of this crate and of those above it share.
 pub mod Tables
 pub mod EachCall
