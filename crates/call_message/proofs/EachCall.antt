@@ -28,7 +28,7 @@ use Rattle.access.specs.Memory.{accessSize, setupIn}
 use Rattle.record.specs.Memory.{recordSize, memories, recordAt, recordsIn, stateIn, viewIn}
 use Rattle.record.proofs.LentMemory.{record-length, record-same, store-same, records-store, view-in}
 use Rattle.message_operation.specs.declared.Decision.{Decision}
-use Rattle.message_operation.specs.Operation.{rowIn, memoryAfter, decisionOn, Decides}
+use Rattle.message_operation.specs.Operation.{subjectRow, memoryAfter, decisionOn, Decides}
 use Rattle.message_answer.specs.Puts.{fitted, Puts}
 use Rattle.message_answer.proofs.Answers.{fitted-none, bytes-silent, bytes-short, bytes-after}
 use Rattle.call_message.specs.Calls.{lending, MessageCall}
@@ -65,7 +65,7 @@ row-there b p on = ltb-true (rowOf b p) rows on
 pub memory-length : (b : Board) (k : Kind) (o : Outcome) (m : List ℕ) (q : Query) → length (memoryAfter b k o m q) ≡ length m
 unfolding memoryAfter
 memory-length b k o m q =
-    ⊎-elim (λ t. ap length (cond-true _ m t) ∙ record-length b m (rowIn b q) _) (λ f. ap length (cond-false _ m f)) (decide (carriedOut o))
+    ⊎-elim (λ t. ap length (cond-true _ m t) ∙ record-length b m (subjectRow b q) _) (λ f. ap length (cond-false _ m f)) (decide (carriedOut o))
 
 module _ (board a m : List ℕ) (channel : ℕ) (bytes words held : List ℕ) (la : length a ≡ accessSize) (lm : length m ≡ recordSize) where
   abbrev b : Board
@@ -75,36 +75,36 @@ module _ (board a m : List ℕ) (channel : ℕ) (bytes words held : List ℕ) (l
   q = query channel bytes words (length held)
 
   abbrev v : View
-  v = viewIn b a m (rowIn b q)
+  v = viewIn b a m (subjectRow b q)
 
   -- what the call sees, by the rules and by the code
   sees : viewOf (stateIn b a m) (subjectOf q) ≡ v
   sees = view-in b a m (subjectOf q) la
 
   -- the memory after the call: the records of the next state
-  next-records : recordsIn (memoryAfter b (kindIn bytes) (outcomeOf v q) m q) ≡ putIn b (recordsIn m) (rowIn b q) (recordAfter v q)
+  next-records : recordsIn (memoryAfter b (kindIn bytes) (outcomeOf v q) m q) ≡ putIn b (recordsIn m) (subjectRow b q) (recordAfter v q)
   unfolding memoryAfter recordAfter viewIn
   next-records =
       ⊎-elim
       (λ ok.
-      ap recordsIn (cond-true _ _ ok) ∙ records-store b m (rowIn b q) (effectOf (kindIn bytes) q (recordAt b m (rowIn b q))) lm
-      ∙ ap (putIn b (recordsIn m) (rowIn b q)) (sym (cond-true _ _ ok)))
+      ap recordsIn (cond-true _ _ ok) ∙ records-store b m (subjectRow b q) (effectOf (kindIn bytes) q (recordAt b m (subjectRow b q))) lm
+      ∙ ap (putIn b (recordsIn m) (subjectRow b q)) (sym (cond-true _ _ ok)))
       (λ no.
-      ap recordsIn (cond-false _ _ no ∙ sym (store-same b m (rowIn b q))) ∙ records-store b m (rowIn b q) (recordAt b m (rowIn b q)) lm
-      ∙ ap (putIn b (recordsIn m) (rowIn b q)) (sym (cond-false _ _ no)))
+      ap recordsIn (cond-false _ _ no ∙ sym (store-same b m (subjectRow b q))) ∙ records-store b m (subjectRow b q) (recordAt b m (subjectRow b q)) lm
+      ∙ ap (putIn b (recordsIn m) (subjectRow b q)) (sym (cond-false _ _ no)))
       (decide (carriedOut (outcomeOf v q)))
 
   -- the answer's record is read after the call, and is the one before it as far as the answer goes
-  same-bytes : answerBytes (outcomeOf v q) q (recordAt b (memoryAfter b (kindIn bytes) (outcomeOf v q) m q) (rowIn b q)) ≡ answerOf v q
+  same-bytes : answerBytes (outcomeOf v q) q (recordAt b (memoryAfter b (kindIn bytes) (outcomeOf v q) m q) (subjectRow b q)) ≡ answerOf v q
   unfolding memoryAfter answerOf viewIn
   same-bytes =
       let o = outcomeOf v q in
       ⊎-elim
       (λ ok.
-      ap (λ (l : List ℕ). answerBytes o q (recordAt b l (rowIn b q))) (cond-true _ _ ok)
-      ∙ ap (answerBytes o q) (record-same b m (rowIn b q) (effectOf (kindIn bytes) q (recordAt b m (rowIn b q))) lm (row-there b (subjectOf q) (allowed v q ok .onboard)))
-      ∙ bytes-after o q (recordAt b m (rowIn b q)) ok)
-      (λ no. ap (λ (l : List ℕ). answerBytes o q (recordAt b l (rowIn b q))) (cond-false _ _ no))
+      ap (λ (l : List ℕ). answerBytes o q (recordAt b l (subjectRow b q))) (cond-true _ _ ok)
+      ∙ ap (answerBytes o q) (record-same b m (subjectRow b q) (effectOf (kindIn bytes) q (recordAt b m (subjectRow b q))) lm (row-there b (subjectOf q) (allowed v q ok .onboard)))
+      ∙ bytes-after o q (recordAt b m (subjectRow b q)) ok)
+      (λ no. ap (λ (l : List ℕ). answerBytes o q (recordAt b l (subjectRow b q))) (cond-false _ _ no))
       (decide (carriedOut o))
 
   -- the answer needs neither the channel nor the room
@@ -114,18 +114,18 @@ module _ (board a m : List ℕ) (channel : ℕ) (bytes words held : List ℕ) (l
 
   pub message-call : (d : Decision) (n : ℕ) (m′ held′ : List ℕ)
       → Decides outcomeTable (kindIn bytes) (memories board a m) q m′ d
-      → Puts (answerBytes (d .outcome) (query 0 bytes words 0) (recordAt b m′ (rowIn b (query 0 bytes words 0)))) held held′ n
+      → Puts (answerBytes (d .outcome) (query 0 bytes words 0) (recordAt b m′ (subjectRow b (query 0 bytes words 0)))) held held′ n
       → MessageCall (memories board a m) (lending channel bytes words held) m′ held′
       (record { outcome = d .outcome; checks = d .checks; micros = d .micros; written = n; role = d .role })
   unfolding stateIn answerTo next afterMessage stored reportOf decisionOn subjectOf setupIn outcomeOf
   message-call d n m′ held′ decides puts =
       let is : d .outcome ≡ outcomeOf v q = ap (λ (x : Decision). x .outcome) (decides .decision) in
       let left : m′ ≡ memoryAfter b (kindIn bytes) (outcomeOf v q) m q = decides .records ∙ ap (λ (o : Outcome). memoryAfter b (kindIn bytes) o m q) is in
-      let fits : fitted (length held) (answerBytes (d .outcome) (query 0 bytes words 0) (recordAt b m′ (rowIn b (query 0 bytes words 0)))) ≡ answerOf v q =
+      let fits : fitted (length held) (answerBytes (d .outcome) (query 0 bytes words 0) (recordAt b m′ (subjectRow b (query 0 bytes words 0)))) ≡ answerOf v q =
       ap (fitted (length held))
       (plain-query (d .outcome) _
-      ∙ ap (λ (o : Outcome). answerBytes o q (recordAt b m′ (rowIn b q))) is
-      ∙ ap (λ (l : List ℕ). answerBytes (outcomeOf v q) q (recordAt b l (rowIn b q))) left
+      ∙ ap (λ (o : Outcome). answerBytes o q (recordAt b m′ (subjectRow b q))) is
+      ∙ ap (λ (l : List ℕ). answerBytes (outcomeOf v q) q (recordAt b l (subjectRow b q))) left
       ∙ same-bytes)
       ∙ all-fits v q
       in
@@ -141,7 +141,7 @@ module _ (board a m : List ℕ) (channel : ℕ) (bytes words held : List ℕ) (l
       in
       record {
         report = here ∙ ap (λ (x : View). reportOf x q) (sym sees);
-        records = ap recordsIn left ∙ next-records ∙ ap (λ (x : View). putIn b (recordsIn m) (rowIn b q) (recordAfter x q)) (sym sees);
+        records = ap recordsIn left ∙ next-records ∙ ap (λ (x : View). putIn b (recordsIn m) (subjectRow b q) (recordAfter x q)) (sym sees);
         buffer =
             puts .buffer
             ∙ ap (λ (l : List ℕ). bufferAfter l held) fits

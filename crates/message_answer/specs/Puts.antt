@@ -10,13 +10,13 @@ use Rattle.rules.specs.Message.{query}
 use Rattle.rules.specs.Answer.{answerBytes, bufferAfter}
 use Rattle.board.specs.Memory.{boardIn}
 use Rattle.record.specs.Memory.{recordAt}
-use Rattle.message_operation.specs.Operation.{rowIn}
+use Rattle.message_operation.specs.Operation.{subjectRow}
 
 -- the answer to a message with this outcome, where board and record memory hold these words; it depends neither on the channel nor on the room
 abbrev pub answerIn : List ℕ → List ℕ → Outcome → List ℕ → List ℕ → List ℕ
 answerIn board records outcome message status =
     let q = query 0 message status 0 in
-    answerBytes outcome q (recordAt (boardIn board) records (rowIn (boardIn board) q))
+    answerBytes outcome q (recordAt (boardIn board) records (subjectRow (boardIn board) q))
 
 -- the bytes, where they fit the room
 unfoldable pub fitted : ℕ → List ℕ → List ℕ

@@ -29,7 +29,7 @@ use Rattle.access.specs.Memory.{entryAt, viewWith}
 use Rattle.record.specs.Memory.{Memories, recordAt, viewIn, withOwn, withControlWord, withRecord}
 use Rattle.record.proofs.LentMemory.{store-same, word-stands, own-stands, own-stored, control-stored}
 use Rattle.message_operation.specs.declared.Decision.{Decision}
-use Rattle.message_operation.specs.Operation.{rowIn, seenIn, memoryAfter, decisionOn, alone, Carries}
+use Rattle.message_operation.specs.Operation.{subjectRow, seenIn, memoryAfter, decisionOn, alone, Carries}
 
 -- ---- what a test of x says of the t that x is
 
@@ -87,7 +87,7 @@ module _ (k : Kind) (v : View) (q : Query) where
 
 -- what a message of type k comes to, with this access memory and this record
 pub record Comes (b : Board) (k : Kind) (q : Query) (access : List ℕ) (state : Record) (o : Outcome) : Type 0 where
-  pub is : outcome k (viewWith b access (rowIn b q) state) q ≡ o
+  pub is : outcome k (viewWith b access (subjectRow b q) state) q ≡ o
 
 -- and it is a refusal that reports no checks
 pub record Refused (b : Board) (k : Kind) (q : Query) (access : List ℕ) (state : Record) (o : Outcome) : Type 0 where
@@ -103,13 +103,13 @@ Admitted b k q access state = Comes b k q access state (firstOf Ok (byWords q k)
 pub record Reached (b : Board) (k : Kind) (q : Query) (row : ℕ) (state state′ : Record) : Type 0 where
   pub whole : tooShort k q ≡ false
   pub offered : notOffered k ≡ false
-  pub here : row ≡ rowIn b q
+  pub here : row ≡ subjectRow b q
   pub on : onBoard b (subjectOf q) ≡ true
   pub same : state ≡ state′
 
 -- and it was loaded from that row
 pub record Loaded (b : Board) (k : Kind) (q : Query) (memory : List ℕ) (row : ℕ) (state : Record) : Type 0 where
-  pub reached : Reached b k q row state (recordAt b memory (rowIn b q))
+  pub reached : Reached b k q row state (recordAt b memory (subjectRow b q))
 
 module _ {b : Board} {k : Kind} {q : Query} {access : List ℕ} {state : Record} where
   pub too-short : length (q .message) < sizeOf k → Refused b k q access state N4
@@ -154,7 +154,7 @@ module _ {b : Board} {k : Kind} {q : Query} {row : ℕ} {state state′ : Record
     as-seen : {o : Outcome} → outcome k (viewWith b access row state) q ≡ o → Comes b k q access state′ o
     as-seen {o} is =
         record {
-          is = subst (λ (s : Record). outcome k (viewWith b access (rowIn b q) s) q ≡ o) (r .same)
+          is = subst (λ (s : Record). outcome k (viewWith b access (subjectRow b q) s) q ≡ o) (r .same)
               (subst (λ (n : ℕ). outcome k (viewWith b access n state) q ≡ o) (r .here) is);
         }
 
@@ -202,15 +202,15 @@ abbrev pub boardHeld : Memories → Board
 boardHeld m = boardIn (m .board)
 
 abbrev pub recordSeen : Memories → Query → Record
-recordSeen m q = recordAt (boardHeld m) (m .records) (rowIn (boardHeld m) q)
+recordSeen m q = recordAt (boardHeld m) (m .records) (subjectRow (boardHeld m) q)
 
 -- a type that changes no record leaves the memory
 pub keeps-records : (k : Kind) (m : Memories) (q : Query) → ((r : Record) → effectOf k q r ≡ r) → (o : Outcome)
     → m .records ≡ memoryAfter (boardHeld m) k o (m .records) q
 unfolding memoryAfter
 keeps-records k m q same o =
-    let kept : withRecord (boardHeld m) (m .records) (rowIn (boardHeld m) q) (effectOf k q (recordSeen m q)) ≡ m .records =
-    ap (withRecord (boardHeld m) (m .records) (rowIn (boardHeld m) q)) (same (recordSeen m q)) ∙ store-same (boardHeld m) (m .records) (rowIn (boardHeld m) q)
+    let kept : withRecord (boardHeld m) (m .records) (subjectRow (boardHeld m) q) (effectOf k q (recordSeen m q)) ≡ m .records =
+    ap (withRecord (boardHeld m) (m .records) (subjectRow (boardHeld m) q)) (same (recordSeen m q)) ∙ store-same (boardHeld m) (m .records) (subjectRow (boardHeld m) q)
     in
     ⊎-elim (λ t. sym (cond-true _ (m .records) t ∙ kept)) (λ f. sym (cond-false _ (m .records) f)) (decide (carriedOut o))
 

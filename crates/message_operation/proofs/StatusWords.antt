@@ -22,7 +22,7 @@ use Rattle.rules.proofs.Tests.{cond-true, cond-false}
 use Rattle.board.specs.Memory.{boardIn}
 use Rattle.record.specs.Memory.{Memories, recordAt, viewIn}
 use Rattle.message_operation.specs.declared.Decision.{Decision}
-use Rattle.message_operation.specs.Operation.{rowIn, seenIn, decisionOn, alone, Carries}
+use Rattle.message_operation.specs.Operation.{subjectRow, seenIn, decisionOn, alone, Carries}
 use Rattle.message_operation.proofs.Rows.{Comes, Refused, Admitted, boardHeld, recordSeen, keeps-records, decided, plainly}
 
 -- ---- of any type

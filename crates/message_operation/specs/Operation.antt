@@ -20,17 +20,17 @@ use Rattle.record.specs.Memory.{Memories, recordAt, viewIn, withRecord}
 use Rattle.message_operation.specs.declared.Decision.{Decision}
 
 -- the row of the processor whose record the call works on
-abbrev pub rowIn : Board → Query → ℕ
-rowIn b q = rowOf b (subjectOf q)
+abbrev pub subjectRow : Board → Query → ℕ
+subjectRow b q = rowOf b (subjectOf q)
 
 -- what a message sees in the memories
 abbrev pub seenIn : Memories → Query → View
-seenIn m q = viewIn (boardIn (m .board)) (m .access) (m .records) (rowIn (boardIn (m .board)) q)
+seenIn m q = viewIn (boardIn (m .board)) (m .access) (m .records) (subjectRow (boardIn (m .board)) q)
 
 -- the record memory after a message of type k with this outcome: OK has its effect, and a refusal leaves the memory
 unfoldable pub memoryAfter : Board → Kind → Outcome → List ℕ → Query → List ℕ
 memoryAfter b k o memory q =
-    cond (carriedOut o) (withRecord b memory (rowIn b q) (effectOf k q (recordAt b memory (rowIn b q)))) memory
+    cond (carriedOut o) (withRecord b memory (subjectRow b q) (effectOf k q (recordAt b memory (subjectRow b q)))) memory
 
 -- an outcome with what it carries: the checks and the microseconds where a wait ended, else 0 and 0; and where a request came to N7 or OK the
 -- sender's role, else none

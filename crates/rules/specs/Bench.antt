@@ -58,12 +58,12 @@ waitStatus host words =
 -- ---- what a call gives
 
 -- an offer its verdict; a message outcome, checks, microseconds, written bytes, and the record afterwards of the processor named, but for its
--- tallies, of which Counts.antt has cases
-pub data Given : Type 0 where
-  verdict : Verdict → Given
-  answer : Outcome → ℕ → ℕ → List ℕ → Record → Given
+-- tallies, of which BenchTally.antt has cases
+pub data BenchResult : Type 0 where
+  verdict : Verdict → BenchResult
+  answer : Outcome → ℕ → ℕ → List ℕ → Record → BenchResult
 
-unfoldable pub answerGiven : Answer → Record → Given
+unfoldable pub answerGiven : Answer → Record → BenchResult
 answerGiven a r =
     answer (a .report .outcome) (a .report .checks) (a .report .micros) (a .bytes)
     (record {
@@ -75,7 +75,7 @@ answerGiven a r =
       tallies = noTallies;
     })
 
-unfoldable pub givenIn : State → Call → Given
+unfoldable pub givenIn : State → Call → BenchResult
 givenIn s (offer o) = verdict (verdictTo s o)
 givenIn s (message lent) =
     answerGiven (answerTo s (queryOf lent)) (recordOf (next s (message lent)) (subjectOf (queryOf lent)))
@@ -85,7 +85,7 @@ givenIn s (message lent) =
 pub record Case : Type 0 where
   pub earlier : List Call
   pub call : Call
-  pub gives : Given
+  pub gives : BenchResult
 
 -- the record of a processor with this controller and vector, and no flag
 abbrev pub heldWith : ℕ → ℕ → Record

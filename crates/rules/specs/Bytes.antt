@@ -35,3 +35,7 @@ bitOf k x = x / 2 ^ k % 2
 -- bit k of x is 1
 abbrev pub hasBit : ℕ → ℕ → Bool
 hasBit k x = eqb (bitOf k x) 1
+
+-- tagged fields, as recordings and board descriptions have them: one-byte tag, two-byte little-endian length, bytes. How many stand before the body
+abbrev pub fieldHead : ℕ
+fieldHead = 3

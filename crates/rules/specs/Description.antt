@@ -10,7 +10,7 @@ use Rattle.rules.specs.declared.Item.{Item}
 use Rattle.rules.specs.declared.Verdict.{Verdict}
 use Rattle.rules.specs.declared.Verdict.the-variants.{Accepted, A1, D1, D2, D3, D4, D5, D6}
 use Rattle.rules.specs.Table.{Line, _gives_, firstOf, anyOf, placeOf, allFrom, tableOf}
-use Rattle.rules.specs.Bytes.{byteAt, u16At}
+use Rattle.rules.specs.Bytes.{byteAt, u16At, fieldHead}
 use Rattle.rules.specs.Board.{Board, r5, armv8, rows, hostLimit, rowOf, onBoard, classOf, homeAt, homeOf}
 
 pub record Host : Type 0 where
@@ -71,7 +71,7 @@ unfoldable pub fieldGood : List ℕ → Bool
 fieldGood bytes =
     ltb 0 (bodySize (byteAt bytes 0))
     && eqb (u16At bytes 1) (bodySize (byteAt bytes 0))
-    && leb (3 + bodySize (byteAt bytes 0)) (length bytes)
+    && leb (fieldHead + bodySize (byteAt bytes 0)) (length bytes)
 
 -- a field that is not good: it has no tag
 unfoldable pub noItem : Item
@@ -91,7 +91,7 @@ itemIn bytes =
 
 -- how many bytes the field of an item has
 unfoldable pub fieldSize : Item → ℕ
-fieldSize x = 3 + bodySize (x .tag)
+fieldSize x = fieldHead + bodySize (x .tag)
 
 -- the items of the bytes, at most n
 unfoldable pub itemsFrom : ℕ → List ℕ → List Item

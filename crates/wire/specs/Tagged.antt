@@ -4,13 +4,9 @@ use mathlib.Core.List.{List, [], _∷_}
 use lib.ListN.{length}
 use lib.Dec.{leb, ltb}
 use Rattle.rules.specs.Table.{_gives_, firstOf}
-use Rattle.rules.specs.Bytes.{byteAt, u16At}
+use Rattle.rules.specs.Bytes.{byteAt, u16At, fieldHead}
 use Rattle.wire.specs.declared.tagged.Tagged.{Tagged}
 use Rattle.wire.specs.declared.tagged.Tagged.the-variants.{End, Tag, Head, Field}
-
--- how many bytes a field has before its body: the tag and the length
-abbrev pub headSize : ℕ
-headSize = 3
 
 -- the length that a field at place `at` says
 abbrev pub lengthAt : List ℕ → ℕ → ℕ
@@ -21,6 +17,6 @@ unfoldable pub taggedAt : List ℕ → ℕ → Tagged
 taggedAt bytes at =
     firstOf (Field (byteAt bytes at) (lengthAt bytes at))
     ((leb (length bytes) at gives End)
-    ∷ (ltb (length bytes - at) headSize gives Tag (byteAt bytes at))
-    ∷ (ltb (length bytes - at - headSize) (lengthAt bytes at) gives Head (byteAt bytes at) (lengthAt bytes at))
+    ∷ (ltb (length bytes - at) fieldHead gives Tag (byteAt bytes at))
+    ∷ (ltb (length bytes - at - fieldHead) (lengthAt bytes at) gives Head (byteAt bytes at) (lengthAt bytes at))
     ∷ [])
