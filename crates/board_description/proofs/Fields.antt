@@ -68,7 +68,7 @@ module _ (bytes : List ℕ) (at : ℕ) where
   field-judged : fieldGood (drop at bytes) ≡ goodIn (taggedAt bytes at)
   field-judged =
       tagged-cases bytes at (λ (x : Tagged). fieldGood (drop at bytes) ≡ goodIn x) (λ h. cut-field _ _ refl refl (omega arith))
-      (λ some h. cut-field _ _ refl refl (omega arith)) (cut-field _ _ refl refl) (whole-field _ _ refl refl)
+      (λ some h. cut-field _ _ refl refl (omega arith)) (λ three h. cut-field _ _ refl refl h) (whole-field _ _ refl refl)
 
   -- the body, as the code cuts it out
   body-there : (k : ℕ) → byteAt (take (length bytes - (at + 3)) (drop (at + 3) bytes)) k ≡ byteAt (drop at bytes) (3 + k)

@@ -7,7 +7,7 @@ use lib.ListN.{length, getD, set, take, drop, length-take}
 use lib.Seq.{take-length, getD-take, paste-suc}
 use Rattle.rules.specs.Bytes.{u32At}
 use Rattle.rules.specs.Answer.{bufferAfter}
-use Rattle.recording_fields.specs.Words.{statusWords, wordsFrom, statusWordsOf}
+use Rattle.rules.specs.Recording.{wordLimit, wordsFrom, wordsIn}
 
 words-length : (body : List ℕ) (i n : ℕ) → length (wordsFrom body i n) ≡ n
 unfolding wordsFrom
@@ -22,17 +22,14 @@ words-from-at body i (suc n) (suc j) h =
     words-from-at body (suc i) n j (le-of-suc-le-suc h) ∙ ap (λ (k : ℕ). u32At body (4 * k)) (suc-add i j ∙ sym (add-suc i j))
 
 -- no more are taken than there is room for
-abbrev pub taken : List ℕ → List ℕ
-taken body = take statusWords (statusWordsOf body)
+pub taken-length : (body : List ℕ) → length (wordsIn body) ≡ min wordLimit (length body / 4)
+unfolding wordsIn
+taken-length body = length-take wordLimit (wordsFrom body 0 (length body / 4)) ∙ ap (min wordLimit) (words-length body 0 (length body / 4))
 
-pub taken-length : (body : List ℕ) → length (taken body) ≡ min statusWords (length body / 4)
-unfolding statusWordsOf
-taken-length body = length-take statusWords (statusWordsOf body) ∙ ap (min statusWords) (words-length body 0 (length body / 4))
-
-pub taken-at : (body : List ℕ) (i : ℕ) → i < statusWords → i < length body / 4 → getD (taken body) i 0 ≡ u32At body (4 * i)
-unfolding statusWordsOf
+pub taken-at : (body : List ℕ) (i : ℕ) → i < wordLimit → i < length body / 4 → getD (wordsIn body) i 0 ≡ u32At body (4 * i)
+unfolding wordsIn
 taken-at body i few h =
-    getD-take statusWords (statusWordsOf body) i 0 few
+    getD-take wordLimit (wordsFrom body 0 (length body / 4)) i 0 few
     ∙ words-from-at body 0 (length body / 4) i h
     ∙ ap (λ (k : ℕ). u32At body (4 * k)) (zero-add i)
 

@@ -1,28 +1,18 @@
-// A recording's fields: what stands at a place of a buffer. The rule is specs/Fields.antt.
+// A recording's fields: what stands at a place of bytes. The rule is `found` of rules/specs/Recording.antt.
 ghost use mathlib.Core.Path.{_≡_};
-ghost use Rattle.recording_fields.specs.Fields.{foundAt};
+ghost use lib.ListN.{drop};
+ghost use Rattle.rules.specs.Recording.{found};
 use crate::tag::length_good;
 use crate::tag::tag_good;
+use rules::Found;
 use wire::Tagged;
 use wire::tagged_at;
 
-// What stands at a place of a buffer.
-pub enum Found {
-    // A whole field: its tag and its length; the body starts three bytes on.
-    Whole(u8, u16),
-    // A bad tag or length.
-    Bad,
-    // The beginning of a field, with more to come.
-    Partial,
-    // The end of the buffer.
-    Nothing,
-}
-
-// What stands at place `at` of the buffer. A bad tag is found alone, a bad length before the body.
-pub fn find(buffer: &[u8], at: usize) -> Found
-    ensures { λ r. ⌜ r ≡ foundAt (now (buffer .entry)) at ⌝ }
+// What stands at place `at` of the bytes. A bad tag is found alone, a bad length before the body.
+pub fn find(bytes: &[u8], at: usize) -> Found
+    ensures { λ r. ⌜ r ≡ found (drop at (now (bytes .entry))) ⌝ }
 {
-    let tagged = tagged_at(buffer, at);
+    let tagged = tagged_at(bytes, at);
     match tagged {
         Tagged::End => Found::Nothing,
         Tagged::Tag(tag) => {

@@ -1,6 +1,7 @@
-// A recording's tags, and how long a field of each may be. The rules are specs/Tags.antt.
+// A recording's tags, and how long a field of each may be. The rules are
+// rules/specs/Recording.antt.
 ghost use mathlib.Core.Path.{_≡_};
-ghost use Rattle.recording_fields.specs.Tags.{tagGood, lengthGood};
+ghost use Rattle.rules.specs.Recording.{tagGood, lengthGood};
 
 // An access list.
 pub const TAG_LIST: u8 = 1;
@@ -20,7 +21,7 @@ pub const TAG_BOARD: u8 = 6;
 // The longest body of status words, and of any other field.
 const STATUS_LIMIT: u16 = 1020;
 
-const FIELD_LIMIT: u16 = 512;
+const BODY_LIMIT: u16 = 512;
 
 // Whether a tag is one of the five.
 pub(crate) fn tag_good(tag: u8) -> bool
@@ -35,14 +36,14 @@ pub(crate) fn tag_good(tag: u8) -> bool
 
 // Whether a field of this tag may have this length; no length is good for any other tag. A message is
 // tested first, since most fields are one.
-pub(crate) fn length_good(tag: u8, length: u16) -> bool
+pub fn length_good(tag: u8, length: u16) -> bool
     ensures { λ r. ⌜ r ≡ lengthGood tag length ⌝ }
 {
     if tag == TAG_MESSAGE {
-        return (1 <= length) & (length <= FIELD_LIMIT);
+        return (1 <= length) & (length <= BODY_LIMIT);
     }
     if tag == TAG_STATUS {
         return (length <= STATUS_LIMIT) & (length % 4 == 0);
     }
-    ((tag == TAG_LIST) | (tag == TAG_BLOCK) | (tag == TAG_BOARD)) & (length <= FIELD_LIMIT)
+    ((tag == TAG_LIST) | (tag == TAG_BLOCK) | (tag == TAG_BOARD)) & (length <= BODY_LIMIT)
 }

@@ -10,7 +10,7 @@ use lib.Dec.{ltb}
 use lib.ListN.{length, set, length-append}
 use borrow.Author.Tests.{ltb-true}
 use Rattle.rules.proofs.Tests.{decide}
-use Rattle.recording_texts.specs.Digits.{decimalIn}
+use Rattle.rules.specs.Text.{decimalIn}
 use Rattle.recording_texts.proofs.Digits.{decimal-last}
 use Rattle.recording_texts.specs.Texts.{laid}
 use Rattle.recording_texts.proofs.Printing.{laid-none}

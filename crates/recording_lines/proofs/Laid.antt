@@ -9,9 +9,8 @@ use lib.Seq.{getD-set-same, drop-set-lt, take-set-le, set-at, drop-cons, drop-dr
 use mathlib.Core.Logic.{⊎-elim}
 use lib.Dec.{eqb}
 use Rattle.rules.proofs.Tests.{decide}
-use Rattle.recording_texts.specs.Digits.{hexOf, glyph}
+use Rattle.rules.specs.Text.{hexOf, glyph, answerText}
 use Rattle.recording_texts.specs.Texts.{laid}
-use Rattle.recording_lines.specs.Lines.{answerText}
 use Rattle.rules.specs.Message.{largestAnswer}
 
 -- a piece before the laid text, as long as the place

@@ -12,15 +12,8 @@ use borrow.Author.Tests.{le-leb}
 use borrow.Rule.Slice.PartMut.{midOf, putMid}
 use Rattle.rules.specs.Answer.{bufferAfter}
 use Rattle.recording_texts.specs.Texts.{lineSize, hasRoom, printed, Printed}
+use Rattle.wire.proofs.Puts.{put-over}
 use Rattle.recording_texts.proofs.Printing.{all-printed}
-
-module _ (text line : List ℕ) (fits : length text ≤ length line) where
-  -- bytes that fit are put whole
-  pub put-count : (n : ℕ) → n ≡ cond (leb (length text) (length line)) (length text) 0 → n ≡ length text
-  put-count n count = rw (le-leb (length text) (length line) fits) at count
-
-  pub put-over : (line′ : List ℕ) → line′ ≡ cond (leb (length text) (length line)) (bufferAfter text line) line → line′ ≡ bufferAfter text line
-  put-over line′ over = rw (le-leb (length text) (length line) fits) at over
 
 module _ (line word once : List ℕ) (at : ℕ) (short : length word ≤ length line) (here : at ≡ length word) (put : once ≡ bufferAfter word line) where
   long : length once ≡ length line

@@ -1,3 +1,2 @@
--- The lines that a message and an offer print.
-pub mod Lines
+-- The line of an offer, as it is printed.
 pub mod Offers

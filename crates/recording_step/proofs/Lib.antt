@@ -1,3 +1,4 @@
--- What the proofs of this crate share.
-pub mod Messages
-pub mod Offers
+-- What the proofs of this crate and of those above it share.
+pub mod Calls
+pub mod Fields
+pub mod Kept

@@ -1,38 +1,22 @@
--- How a whole field is carried out, by its tag.
+-- What carrying out a field leaves: the line that it prints, laid over the start of what is lent, and the session. Where there is no room for a line,
+-- nothing is carried out.
 use Prim.Native.Nat.{ℕ}
 use mathlib.Core.Path.{_≡_}
+use mathlib.Core.Bool.{cond}
 use mathlib.Core.List.{List}
-use lib.ListN.{length, take}
-use Rattle.rules.specs.Answer.{bufferAfter}
-use Rattle.board.specs.Memory.{boardIn}
-use Rattle.recording_fields.specs.Tags.{listTag, messageTag, blockTag, boardTag}
-use Rattle.recording_fields.specs.Words.{statusWords, statusWordsOf}
-use Rattle.recording_step.specs.Offers.{PlayedBlock, PlayedBoard, PlayedList}
-use Rattle.recording_step.specs.Messages.{PlayedMessage}
-use Rattle.recording_step.specs.SessionMemory.{SessionMemories, memories}
+use Rattle.rules.specs.State.{State}
+use Rattle.rules.specs.Call.{Call, next}
+use Rattle.rules.specs.Recording.{Field, carryOut, lineOf}
+use Rattle.record.specs.Memory.{Memories, stateOf, kept}
+use Rattle.recording_texts.specs.Texts.{hasRoom, printed, Printed}
+use Rattle.recording_step.specs.SessionMemory.{SessionMemories, sessionIn, keptSession}
 
--- as many of a field's status words as there is room for
-abbrev pub wordsTaken : List ℕ → List ℕ
-wordsTaken body = take statusWords (statusWordsOf body)
+-- a call carried out over lent memories, and its line: the memories hold what is kept of the rules' next state
+pub record CallPlayed (m : Memories) (c : Call) (line : List ℕ) (m′ : Memories) (line′ : List ℕ) (n : ℕ) : Type 0 where
+  pub prints : Printed line (lineOf (stateOf m) c) line′ n
+  pub state : stateOf m′ ≡ kept (next (stateOf m) c)
 
--- a field of this tag and body, with these memories and this line before and after it, and the line's length: a list, a block and a board
--- description are offered; a message is carried out with the words that stand; the words of any other stand from now on, and nothing is printed. What a
--- tag does not concern is kept
-pub data PlayedField : ℕ → List ℕ → List ℕ → SessionMemories → SessionMemories → List ℕ → ℕ → Type 0 where
-  list : {body line board access records words access′ line′ : List ℕ} {stand n : ℕ}
-      → PlayedList (boardIn board) access body line access′ line′ n
-      → PlayedField listTag body line (memories board access records words stand) (memories board access′ records words stand) line′ n
-  block : {body line board access records words access′ line′ : List ℕ} {stand n : ℕ}
-      → PlayedBlock (boardIn board) access body line access′ line′ n
-      → PlayedField blockTag body line (memories board access records words stand) (memories board access′ records words stand) line′ n
-  description : {body line board access records words board′ line′ : List ℕ} {stand n : ℕ}
-      → PlayedBoard board access body line board′ line′ n
-      → PlayedField boardTag body line (memories board access records words stand) (memories board′ access records words stand) line′ n
-  message : {body line board access records words records′ line′ : List ℕ} {stand n : ℕ}
-      → PlayedMessage (record { board = board; access = access; records = records }) body (take stand words) line records′ line′ n
-      → PlayedField messageTag body line (memories board access records words stand) (memories board access records′ words stand) line′ n
-  status : {tag : ℕ} {body line board access records words words′ : List ℕ} {stand stand′ : ℕ}
-      → (tag ≡ messageTag → ⊥) → (tag ≡ listTag → ⊥) → (tag ≡ blockTag → ⊥) → (tag ≡ boardTag → ⊥)
-      → words′ ≡ bufferAfter (wordsTaken body) words
-      → stand′ ≡ length (wordsTaken body)
-      → PlayedField tag body line (memories board access records words stand) (memories board access records words′ stand′) line 0
+-- a field carried out
+pub record FieldPlayed (m : SessionMemories) (f : Field) (line : List ℕ) (m′ : SessionMemories) (line′ : List ℕ) (n : ℕ) : Type 0 where
+  pub prints : Printed line (printed (hasRoom line) (carryOut (sessionIn m) f .line)) line′ n
+  pub session : sessionIn m′ ≡ cond (hasRoom line) (keptSession (carryOut (sessionIn m) f .session)) (sessionIn m)

@@ -1,5 +1,3 @@
--- A field carried out by its tag: an offer, a message, status words; and what a session holds.
-pub mod Fields
-pub mod Messages
-pub mod Offers
+-- A field carried out by its tag; and what a session holds.
 pub mod SessionMemory
+pub mod Fields

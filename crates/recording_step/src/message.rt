@@ -1,16 +1,18 @@
 // Session recordings: carries a message out, and writes the line that it prints. The rule is
-// specs/Messages.antt.
+// specs/Fields.antt.
 ghost use mathlib.Core.Path.{_≡_};
-ghost use lib.ListN.{drop};
+ghost use Prim.Native.Nat.{_≤_};
+ghost use lib.ListN.{length, drop};
+ghost use Rattle.rules.specs.Recording.{messageCall};
 ghost use Rattle.record.specs.Memory.{memories};
-ghost use Rattle.recording_step.specs.Messages.{PlayedMessage};
+ghost use Rattle.recording_texts.specs.Texts.{lineSize};
+ghost use Rattle.recording_step.specs.Fields.{CallPlayed};
 use access::AccessMemory;
 use board::BoardMemory;
 use call_message::message;
 use message_answer::ANSWER_BYTES;
 use record::RecordMemory;
 use recording_lines::print_message;
-use recording_texts::LINE_BYTES;
 use wire::byte_at;
 
 // All of a field's body but its first byte.
@@ -24,7 +26,7 @@ fn after_first(body: &[u8]) -> &[u8]
 }
 
 // Carries out a message field with these status words, and writes its line over the start of `line`. Gives
-// the line's length. Where there is no room for a line, nothing is carried out.
+// the line's length.
 pub(crate) fn message_line(
     board: &BoardMemory,
     access: &AccessMemory,
@@ -33,14 +35,13 @@ pub(crate) fn message_line(
     status: &[u32],
     line: &mut [u8],
 ) -> usize
+    requires { ⌜ lineSize ≤ length (now line) ⌝ }
     ensures { λ r. ⌜
-        PlayedMessage (memories (now (board .entry)) (now (access .entry)) (now (records .entry)))
-        (now (body .entry)) (now (status .entry)) (now (line .entry)) (now (records .exit)) (now (line .exit)) r
+        CallPlayed (memories (now (board .entry)) (now (access .entry)) (now (records .entry)))
+        (messageCall (now (body .entry)) (now (status .entry))) (now (line .entry))
+        (memories (now (board .entry)) (now (access .entry)) (now (records .exit))) (now (line .exit)) r
         ⌝ }
 {
-    if line.len() < LINE_BYTES {
-        return 0;
-    }
     let mut answer = [0u8; ANSWER_BYTES];
     let channel = byte_at(body, 0);
     let told = message(

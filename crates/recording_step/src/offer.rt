@@ -1,7 +1,12 @@
 // Session recordings: carries an offer out, of a board description, a list or a block, and writes the line
-// that it prints. The rules are specs/Offers.antt.
-ghost use Rattle.board.specs.Memory.{boardIn};
-ghost use Rattle.recording_step.specs.Offers.{PlayedBlock, PlayedBoard, PlayedList};
+// that it prints. The rule is specs/Fields.antt; the records, which an offer does not get, are any.
+ghost use Prim.Native.Nat.{ℕ, _≤_};
+ghost use mathlib.Core.List.{List};
+ghost use lib.ListN.{length};
+ghost use Rattle.rules.specs.Recording.{boardCall, listCall, blockCall};
+ghost use Rattle.record.specs.Memory.{memories};
+ghost use Rattle.recording_texts.specs.Texts.{lineSize};
+ghost use Rattle.recording_step.specs.Fields.{CallPlayed};
 use access::AccessMemory;
 use board::BoardMemory;
 use call_offer::offer_block;
@@ -10,7 +15,6 @@ use call_offer::offer_list;
 use recording_lines::print_block;
 use recording_lines::print_board;
 use recording_lines::print_list;
-use recording_texts::LINE_BYTES;
 
 // The ABI bytes that a recorded block must have.
 const ABI_MAJOR: u8 = 0;
@@ -18,21 +22,18 @@ const ABI_MAJOR: u8 = 0;
 const ABI_MINOR: u8 = 1;
 
 // Carries out a board field, and writes its line over the start of `line`. Gives the line's length.
-// Where there is no room for a line, nothing is carried out.
 pub(crate) fn board_line(
     board: &mut BoardMemory,
     access: &AccessMemory,
     body: &[u8],
     line: &mut [u8],
 ) -> usize
-    ensures { λ r. ⌜
-        PlayedBoard (now (board .entry)) (now (access .entry)) (now (body .entry)) (now (line .entry))
-        (now (board .exit)) (now (line .exit)) r
+    requires { ⌜ lineSize ≤ length (now line) ⌝ }
+    ensures { λ r. ⌜ ((records : List ℕ) →
+        CallPlayed (memories (now (board .entry)) (now (access .entry)) records) (boardCall (now (body .entry))) (now (line .entry))
+        (memories (now (board .exit)) (now (access .entry)) records) (now (line .exit)) r)
         ⌝ }
 {
-    if line.len() < LINE_BYTES {
-        return 0;
-    }
     print_board(line, offer_board(board, access, body))
 }
 
@@ -43,14 +44,12 @@ pub(crate) fn list_line(
     body: &[u8],
     line: &mut [u8],
 ) -> usize
-    ensures { λ r. ⌜
-        PlayedList (boardIn (now (board .entry))) (now (access .entry)) (now (body .entry)) (now (line .entry))
-        (now (access .exit)) (now (line .exit)) r
+    requires { ⌜ lineSize ≤ length (now line) ⌝ }
+    ensures { λ r. ⌜ ((records : List ℕ) →
+        CallPlayed (memories (now (board .entry)) (now (access .entry)) records) (listCall (now (body .entry))) (now (line .entry))
+        (memories (now (board .entry)) (now (access .exit)) records) (now (line .exit)) r)
         ⌝ }
 {
-    if line.len() < LINE_BYTES {
-        return 0;
-    }
     print_list(line, offer_list(board, access, body))
 }
 
@@ -61,14 +60,12 @@ pub(crate) fn block_line(
     body: &[u8],
     line: &mut [u8],
 ) -> usize
-    ensures { λ r. ⌜
-        PlayedBlock (boardIn (now (board .entry))) (now (access .entry)) (now (body .entry)) (now (line .entry))
-        (now (access .exit)) (now (line .exit)) r
+    requires { ⌜ lineSize ≤ length (now line) ⌝ }
+    ensures { λ r. ⌜ ((records : List ℕ) →
+        CallPlayed (memories (now (board .entry)) (now (access .entry)) records) (blockCall (now (body .entry))) (now (line .entry))
+        (memories (now (board .entry)) (now (access .exit)) records) (now (line .exit)) r)
         ⌝ }
 {
-    if line.len() < LINE_BYTES {
-        return 0;
-    }
     let report = offer_block(board, access, ABI_MAJOR, ABI_MINOR, body);
     let verdict = report.verdict;
     print_block(line, verdict, report.host)

@@ -6,7 +6,7 @@ use native.Mathlib.Nat.{one-le-pow, pow-suc}
 use native.Mathlib.Omega.{arith}
 use lib.ListN.{length, length-append}
 use borrow.Author.Tests.{lt-ltb, le-ltb}
-use Rattle.recording_texts.specs.Digits.{decimalIn}
+use Rattle.rules.specs.Text.{decimalIn}
 
 -- a digit taken off the end of a number that has more
 pub decimal-digit : (k n : ℕ) → 10 ≤ n → decimalIn (suc k) n ≡ decimalIn k (n / 10) ++ ((48 + n % 10) ∷ [])

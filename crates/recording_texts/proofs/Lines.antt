@@ -8,9 +8,9 @@ use lib.Seq.{take-append-seam}
 use Rattle.rules.specs.declared.Verdict.{Verdict}
 use Rattle.rules.specs.declared.Verdict.the-variants.{Accepted, A1, A2, A3, A4, A5, A6, A7, A8, B1, B2, B3, B4, B5, B6, B7, B8, B9, B10, D1, D2, D3, D4, D5, D6}
 use Rattle.rules.specs.Verdict.{verdictNumber}
-use Rattle.recording_texts.specs.Digits.{decimalIn, decimalOf}
+use Rattle.rules.specs.Text.{decimalIn, decimalOf, verdictLetter, verdictLine}
 use Rattle.recording_texts.proofs.Digits.{decimal-last, decimal-two, decimal-three}
-use Rattle.recording_texts.specs.Names.{verdictLetter, verdictLine, loopLine, padded}
+use Rattle.recording_texts.specs.Names.{loopLine, padded}
 
 -- ---- B8, by the digits of its host
 

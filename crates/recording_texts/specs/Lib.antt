@@ -1,4 +1,3 @@
--- The texts that a session prints: digits, names, fixed lines.
-pub mod Digits
+-- The room that a line needs, and the text of a verdict.
 pub mod Names
 pub mod Texts

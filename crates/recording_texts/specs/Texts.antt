@@ -1,22 +1,10 @@
--- The names of outcomes, the fixed lines, and how a line is laid over a buffer. As ASCII.
-use Prim.Native.Nat.{ℕ, _+_, _-_, _≤_}
+-- The room that a line needs, and how one is laid over a buffer.
+use Prim.Native.Nat.{ℕ, _+_, _≤_}
 use mathlib.Core.Path.{_≡_}
 use mathlib.Core.Bool.{Bool, cond}
-use mathlib.Core.List.{List, [], _∷_, _++_}
+use mathlib.Core.List.{List, [], _++_}
 use lib.ListN.{length, take, drop}
-use lib.Dec.{eqb, leb, ltb}
-
--- OK, or N and R with their number
-abbrev pub outcomeName : ℕ → List ℕ
-outcomeName number =
-    cond (eqb number 0) (79 ∷ 75 ∷ []) (cond (ltb number 100) (78 ∷ (48 + number) ∷ []) (82 ∷ (number - 52) ∷ []))
-
--- `bad record` and `cut record`
-abbrev pub badLine : List ℕ
-badLine = 98 ∷ 97 ∷ 100 ∷ 32 ∷ 114 ∷ 101 ∷ 99 ∷ 111 ∷ 114 ∷ 100 ∷ 10 ∷ []
-
-abbrev pub cutLine : List ℕ
-cutLine = 99 ∷ 117 ∷ 116 ∷ 32 ∷ 114 ∷ 101 ∷ 99 ∷ 111 ∷ 114 ∷ 100 ∷ 10 ∷ []
+use lib.Dec.{leb}
 
 -- a text laid over what a buffer held, from place `at` on
 abbrev pub laid : List ℕ → ℕ → List ℕ → List ℕ

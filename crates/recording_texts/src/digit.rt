@@ -3,7 +3,7 @@
 ghost use mathlib.Core.Path.{_≡_};
 ghost use Prim.Native.Nat.{_%_, _≤_};
 ghost use lib.ListN.{length};
-ghost use Rattle.recording_texts.specs.Digits.{decimalOf, glyph};
+ghost use Rattle.rules.specs.Text.{decimalOf, glyph};
 
 // How many decimal digits a number has. Tests cost less than a loop that divides.
 pub fn digit_count(number: u32) -> usize

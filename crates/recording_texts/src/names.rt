@@ -3,7 +3,8 @@
 ghost use mathlib.Core.List.{_++_, _∷_, []};
 ghost use mathlib.Core.Path.{_≡_};
 ghost use Rattle.rules.specs.Outcome.{outcomeNumber};
-ghost use Rattle.recording_texts.specs.Texts.{outcomeName, badLine, cutLine};
+ghost use Rattle.rules.specs.Text.{outcomeName};
+ghost use Rattle.rules.specs.Recording.{badLine, cutLine};
 use result_numbers::outcome_number;
 use rules::Outcome;
 

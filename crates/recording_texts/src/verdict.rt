@@ -4,7 +4,8 @@ ghost use mathlib.Core.List.{_++_, _∷_, []};
 ghost use mathlib.Core.Path.{_≡_};
 ghost use lib.ListN.{length};
 ghost use Rattle.rules.specs.Verdict.{verdictNumber};
-ghost use Rattle.recording_texts.specs.Names.{verdictLetter, loopLine, verdictLine, padded};
+ghost use Rattle.rules.specs.Text.{verdictLetter, verdictLine};
+ghost use Rattle.recording_texts.specs.Names.{loopLine, padded};
 use result_numbers::verdict_number;
 use rules::Verdict;
 

@@ -1,7 +1,6 @@
-// Replays a recorded session: reads tagged fields from standard input, carries each out, and prints
-// its line to standard output. All that matters is in the crates below; this moves bytes. No contract
-// can say what is read or written, so what a read answered goes through a function that promises where
-// the bytes end.
+// Replays a recorded session: reads it piece by piece from standard input, feeds each piece, and writes the
+// lines to standard output. What is printed is worked out and proved in crate recording_feed; this program
+// reads, feeds and writes. No contract can say what is read or written.
 use access::ACCESS_WORDS;
 use access::AccessMemory;
 use board::BOARD_BYTES;
@@ -9,55 +8,111 @@ use board::BoardMemory;
 use io::write_all;
 use record::RECORD_WORDS;
 use record::RecordMemory;
+use recording_feed::CARRY_BYTES;
+use recording_feed::CarryBuffer;
+use recording_feed::feed;
+use recording_feed::finish;
 use recording_fields::STATUS_WORDS;
 use recording_fields::StatusWords;
-use recording_playback::BUFFER_BYTES;
-use recording_playback::Stand;
-use recording_playback::play_held;
-use recording_texts::cut_line;
-ghost use Prim.Native.Nat.{_+_, _≤_};
-ghost use lib.ListN.{length};
-ghost use Rattle.recording_playback.specs.Session.{bufferSize};
+ghost use Prim.Native.Nat.{_≤_};
+ghost use Rattle.replay.specs.Stand.{Within};
 
-// Reads once, behind the first `held` bytes of `input`, and gives the number of bytes read.
-fn read_behind(input: &mut [u8], held: usize) -> usize
-    requires { ⌜ held ≤ length (now input) ⌝ }
-    ensures { λ r. ⌜ held + r ≤ length (now (input .entry)) ⌝ }
-{
-    let got = libc::read(0, &mut input[held..]);
-    let all = &input[..];
-    io::count(got, &all[held..])
+// How many bytes are read, and how many may be printed, at once.
+const BUFFER_BYTES: usize = 65536;
+
+type Buffer = [u8; BUFFER_BYTES];
+
+// Where a session stands between two turns: how many bytes the carry holds, how many status words stand, the
+// place in the piece and its end, and whether the session goes on.
+pub struct Stand {
+    pub held: usize,
+    pub words: u8,
+    pub at: usize,
+    pub end: usize,
+    pub goes: bool,
 }
 
-// Reads once, behind the bytes left over, and plays what is there. At the end of the input a field
-// that was cut off is reported.
+// Feeds what is left of the piece, and writes the lines that it prints. A write that fails ends the session.
+fn feed_piece(
+    board: &mut BoardMemory,
+    access: &mut AccessMemory,
+    records: &mut RecordMemory,
+    words: &mut StatusWords,
+    carry: &mut CarryBuffer,
+    stand: Stand,
+    input: &Buffer,
+    output: &mut Buffer,
+) -> Stand
+    requires { ⌜ Within stand ⌝ }
+    ensures { λ r. ⌜ Within r ⌝ }
+{
+    let end = stand.end;
+    let all = &input[..];
+    let fed = feed(
+        board,
+        access,
+        records,
+        words,
+        stand.words,
+        carry,
+        stand.held,
+        false,
+        &all[..end],
+        stand.at,
+        output,
+    );
+    let used = fed.used;
+    let lines = &output[..];
+    let written = write_all(1, &lines[..used]);
+    Stand {
+        held: fed.held,
+        words: fed.words,
+        at: fed.at,
+        end,
+        goes: written & !fed.over,
+    }
+}
+
+// Announces the end of the session, and writes what that prints.
+fn announce(carry: &CarryBuffer, held: usize, output: &mut Buffer) {
+    let ended = finish(carry, held, false, output);
+    let used = ended.used;
+    let lines = &output[..];
+    write_all(1, &lines[..used]);
+}
+
+// One turn: a new piece is read where the last one is used up. At the end of the input the end is announced.
 fn turn(
     board: &mut BoardMemory,
     access: &mut AccessMemory,
     records: &mut RecordMemory,
     words: &mut StatusWords,
+    carry: &mut CarryBuffer,
     stand: Stand,
-    input: &mut [u8; BUFFER_BYTES],
-    output: &mut [u8; BUFFER_BYTES],
+    input: &mut Buffer,
+    output: &mut Buffer,
 ) -> Stand
-    requires { ⌜ stand .held ≤ bufferSize ⌝ }
-    ensures { λ r. ⌜ r .held ≤ bufferSize ⌝ }
+    requires { ⌜ Within stand ⌝ }
+    ensures { λ r. ⌜ Within r ⌝ }
 {
-    let held = stand.held;
-    let count = stand.words;
-    let more = read_behind(input, held);
-    if more == 0 {
-        if 0 < held {
-            write_all(1, &cut_line());
-        }
-        return Stand {
-            held: 0,
-            words: count,
-            goes: false,
-        };
+    if stand.at < stand.end {
+        return feed_piece(board, access, records, words, carry, stand, input, output);
     }
-    let end = held + more;
-    play_held(board, access, records, words, count, input, end, output)
+    let got = libc::read(0, input);
+    let all = &input[..];
+    let end = io::count(got, all);
+    let next = Stand {
+        held: stand.held,
+        words: stand.words,
+        at: 0,
+        end,
+        goes: 0 < end,
+    };
+    if end == 0 {
+        announce(carry, stand.held, output);
+        return next;
+    }
+    feed_piece(board, access, records, words, carry, next, input, output)
 }
 
 // Document 01's board stands until a board description is taken.
@@ -66,12 +121,15 @@ fn main() {
     let mut access = [0u16; ACCESS_WORDS];
     let mut records = [0u32; RECORD_WORDS];
     let mut words = [0u32; STATUS_WORDS];
+    let mut carry = [0u8; CARRY_BYTES];
     let mut input = io::large_buffer();
     let mut output = io::large_buffer();
     board_setup::start(&mut board);
     let mut stand = Stand {
         held: 0,
         words: 0,
+        at: 0,
+        end: 0,
         goes: true,
     };
     let mut turns: u64 = 0;
@@ -84,6 +142,7 @@ fn main() {
             &mut access,
             &mut records,
             &mut words,
+            &mut carry,
             stand,
             &mut input,
             &mut output,

@@ -19,3 +19,4 @@ pub mod Descriptions
 pub mod Waits
 pub mod Bench
 pub mod Flags
+pub mod Recording

@@ -21,6 +21,8 @@ pub mod State
 pub mod Call
 pub mod Sequence
 pub mod Warranty
+pub mod Text
+pub mod Recording
 pub mod Bench
 pub mod BenchCluster
 pub mod BenchBoard

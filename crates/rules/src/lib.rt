@@ -130,3 +130,15 @@ pub struct Report {
     pub written: usize,
     pub role: Role,
 }
+
+// What the bytes of a recording begin with.
+pub enum Found {
+    // A whole field: its tag and its length; the body starts three bytes on.
+    Whole(u8, u16),
+    // A bad tag or length.
+    Bad,
+    // The beginning of a field, with more to come.
+    Partial,
+    // No byte.
+    Nothing,
+}

@@ -1,5 +1,4 @@
--- Demand 3 of the code: what the memories keep, what a trace leaves and gives, the theorem, and one use of it. The tallies of the code.
-pub mod Kept
+-- Demand 3 of the code: what a trace leaves and gives, the theorem, and one use of it. The tallies of the code.
 pub mod Steps
 pub mod Theorem
 pub mod Warranty

@@ -19,7 +19,7 @@ use Rattle.call_message.specs.Calls.{MessageCall}
 use Rattle.pomrozek.specs.Exported.{ExportedMessage}
 use Rattle.traces.specs.Trace.{Step, boardStep, listStep, blockStep, messageStep, beforeOf, afterOf, callOf, Meets, Trace, done, step, endOf, callsOf}
 use Rattle.traces.specs.Statement.{Given, inNumbers, writtenIn, given}
-use Rattle.traces.proofs.Kept.{answer-kept, message-kept, offer-kept}
+use Rattle.record.proofs.Kept.{answer-kept, message-kept, offer-kept}
 
 -- the memories hold what is kept of a state
 abbrev pub Holds : Memories → State → Type 0

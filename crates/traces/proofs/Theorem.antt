@@ -32,7 +32,7 @@ use Rattle.record.specs.Memory.{recordSize, Memories, recordAt, recordsIn, stat
 use Rattle.record.proofs.LentMemory.{zeros-fresh}
 use Rattle.traces.specs.Trace.{started, Step, boardStep, listStep, blockStep, messageStep, beforeOf, afterOf, callOf, Meets, Trace, step, endOf, callsOf, Loads, Loaded}
 use Rattle.traces.specs.Statement.{start, setupOf, Given, inNumbers, given, OfTheCode, OnEveryDescription}
-use Rattle.traces.proofs.Kept.{record-kept, verdict-kept, block-kept}
+use Rattle.record.proofs.Kept.{record-kept, verdict-kept, block-kept}
 use Rattle.traces.proofs.Steps.{Holds, held-by, given-told, step-holds, trace-holds, trace-given, trace-first, trace-then}
 
 -- what a fresh manager's memories hold

@@ -39,7 +39,7 @@ module _ (bytes : List ℕ) (at : ℕ) where
   pub tagged-cases : (P : Tagged → Type 0)
       → (length bytes ≤ at → P End)
       → (at < length bytes → length bytes < at + 3 → P (Tag (byteAt bytes at)))
-      → (length bytes < at + 3 + lengthAt bytes at → P (Head (byteAt bytes at) (lengthAt bytes at)))
+      → (at + 3 ≤ length bytes → length bytes < at + 3 + lengthAt bytes at → P (Head (byteAt bytes at) (lengthAt bytes at)))
       → (at + 3 + lengthAt bytes at ≤ length bytes → P (Field (byteAt bytes at) (lengthAt bytes at)))
       → P (taggedAt bytes at)
   tagged-cases P none tag head whole =
@@ -49,7 +49,7 @@ module _ (bytes : List ℕ) (at : ℕ) where
       sized : at < length bytes → 3 ≤ length bytes - at → P (taggedAt bytes at)
       sized h three =
           ⊎-elim
-          (λ t. let cut = ltb-true (length bytes - at - 3) (lengthAt bytes at) t in subst P (at-head h three refl cut) (head (omega arith)))
+          (λ t. let cut = ltb-true (length bytes - at - 3) (lengthAt bytes at) t in subst P (at-head h three refl cut) (head (omega arith) (omega arith)))
           (λ f. let fits = ltb-false (length bytes - at - 3) (lengthAt bytes at) f in subst P (at-field h three refl fits) (whole (omega arith)))
           (decide (ltb (length bytes - at - 3) (lengthAt bytes at)))
 
@@ -67,7 +67,7 @@ pub record FieldAt (bytes : List ℕ) (at tag n : ℕ) : Type 0 where
 pub field-at : (bytes : List ℕ) (at tag n : ℕ) → Field tag n ≡ taggedAt bytes at → FieldAt bytes at tag n
 field-at bytes at tag n =
     tagged-cases bytes at (λ (x : Tagged). Field tag n ≡ x → FieldAt bytes at tag n) (λ h e. absurd (no-end e)) (λ s h e. absurd (no-tag e))
-    (λ h e. absurd (no-head e))
+    (λ s h e. absurd (no-head e))
     (λ h e. let same : n ≡ lengthAt bytes at = cc in record { tagged = cc; sized = same; ends = omega arith })
   where
     no-end : Field tag n ≡ End → ⊥

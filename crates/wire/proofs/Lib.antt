@@ -3,3 +3,4 @@ pub mod Fields
 pub mod Moved
 pub mod Numbers
 pub mod Past
+pub mod Puts

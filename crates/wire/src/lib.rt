@@ -8,6 +8,7 @@ pub use read::byte_at;
 pub use read::joined;
 pub use read::u16_at;
 pub use read::u32_at;
+pub use tagged::FIELD_HEAD;
 pub use tagged::Tagged;
 pub use tagged::tagged_at;
 pub use write::move_down;

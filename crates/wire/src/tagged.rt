@@ -4,6 +4,9 @@ ghost use mathlib.Core.Path.{_≡_};
 ghost use Rattle.wire.specs.Tagged.{taggedAt};
 use crate::read::paired;
 
+// How many bytes a field has before its body: the tag and the length.
+pub const FIELD_HEAD: usize = 3;
+
 // What stands at a place of bytes.
 pub enum Tagged {
     // The end of the bytes.
@@ -25,12 +28,12 @@ pub fn tagged_at(bytes: &[u8], at: usize) -> Tagged
     }
     let left = bytes.len() - at;
     let tag = bytes[at];
-    if left < 3 {
+    if left < FIELD_HEAD {
         return Tagged::Tag(tag);
     }
     let place = at + 1;
     let length = paired(bytes[place], bytes[place + 1]);
-    if left - 3 < length as usize {
+    if left - FIELD_HEAD < length as usize {
         return Tagged::Head(tag, length);
     }
     Tagged::Field(tag, length)

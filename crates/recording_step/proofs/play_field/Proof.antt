@@ -1,75 +1,71 @@
 -- `recording_step::play_field` meets its contract: each tag has its call, with the words that stand, and no more.
 use Prim.Native.Nat.{ℕ}
-use mathlib.Core.Path.{_≡_, sym, subst⁻¹}
-use mathlib.Core.List.{List}
+use mathlib.Core.Path.{sym, ap, _∙_}
 use native.Mathlib.Omega.{arith}
 use lib.Seq.{length-take-le}
 use denote.Ref.{now}
 use borrow.Author.Needs.{needs}
-use Rattle.recording_step.specs.SessionMemory.{SessionMemories}
-use Rattle.recording_step.specs.Fields.{PlayedField, list, block, description, status, message}
+use borrow.Author.Tests.{ne-eqb}
+use Rattle.rules.specs.Recording.{messageTag, statusTag, fieldOf, messageCall, carryOut}
+use Rattle.recording_step.specs.SessionMemory.{sessionMemories, sessionIn}
+use Rattle.recording_step.proofs.Fields.{carry-message, carry-status, no-room, from-call, from-words}
 use Rattle.recording_step.proofs.play_field.Statement.{statement}
 use Rattle.recording_step.proofs.play_field.Tie as tie
 
--- the same of a tag that was tested
-tested : {tag is : ℕ} {body line line′ : List ℕ} {m m′ : SessionMemories} {n : ℕ} → tag ≡ is
-    → PlayedField is body line m m′ line′ n → PlayedField tag body line m m′ line′ n
-tested {body = body} {line = line} {line′ = line′} {m = m} {m′ = m′} {n = n} same played =
-    subst⁻¹ (λ (t : ℕ). PlayedField t body line m m′ line′ n) same played
+returns : tie.Need-returns
+returns c =
+    let a = c .before .before .before .args in
+    no-room (now (a .board)) (now (a .access)) (now (a .records)) (now (a .words)) (now (a .line)) (a .count) (fieldOf (a .tag) (now (a .body))) (c .if1 .taken)
 
 slice-aggregate-message-line : tie.Need-slice-aggregate-message-line
 slice-aggregate-message-line c =
     let asked = c .before .before .before .before .before .before in
-    let a = asked .before .before .before .args in
+    let a = asked .before .before .before .before .args in
     sym (length-take-le (a .count) (now (a .words)) (search needs))
-
-returns : tie.Need-returns
-returns c =
-    let d = c .before .before in
-    let played = d .message-line .ensures in
-    (played .prints .short, tested (d .before .before .before .before .before .before .before .before .if1 .taken) (message played))
 
 returns-2 : tie.Need-returns-2
 returns-2 c =
     let d = c .before .before in
-    let played = d .list-line .ensures in
-    (played .prints .short, tested (d .before .before .before .before .if2 .taken) (list played))
+    let tested = d .before .before .before .before .before .before .before .before in
+    let a = tested .before .before .before .before .args in
+    let s = sessionIn (sessionMemories (now (a .board)) (now (a .access)) (now (a .records)) (now (a .words)) (a .count)) in
+    from-call (now (a .board)) (now (a .access)) (now (a .records)) (now (a .words)) (now (a .line)) (a .count) (fieldOf (a .tag) (now (a .body))) (tested .before .if1 .left)
+    _ _ _ _ _ (messageCall (now (a .body)) (s .words))
+    (ap (λ (t : ℕ). carryOut s (fieldOf t (now (a .body)))) (tested .if2 .taken) ∙ carry-message s (now (a .body))) (d .message-line .ensures)
 
 returns-3 : tie.Need-returns-3
 returns-3 c =
-    let d = c .before .before in
-    let played = d .block-line .ensures in
-    (played .prints .short, tested (d .before .before .before .before .if3 .taken) (block played))
+    let tested = c .before .before in
+    let a = tested .before .before .before .before .before .args in
+    let s = sessionIn (sessionMemories (now (a .board)) (now (a .access)) (now (a .records)) (now (a .words)) (a .count)) in
+    let taken = c .take-words .ensures in
+    from-words (now (a .board)) (now (a .access)) (now (a .records)) (now (a .words)) (now (a .line)) (a .count) (fieldOf (a .tag) (now (a .body))) (tested .before .before .if1 .left)
+    (now (a .body)) _ _ (ap (λ (t : ℕ). carryOut s (fieldOf t (now (a .body)))) (tested .if3 .taken) ∙ carry-status s (now (a .body))) (taken .0) (taken .1 .1)
+
+play-offer-requires : tie.Need-play-offer-requires
+play-offer-requires c κs =
+    let tested = c .before .before .before in (
+      tested .before .before .if1 .left,
+      (ne-eqb _ messageTag (tested .before .if2 .left), ne-eqb _ statusTag (tested .if3 .left)),
+    )
 
 returns-4 : tie.Need-returns-4
 returns-4 c =
-    let d = c .before .before in
-    let played = d .board-line .ensures in
-    (played .prints .short, tested (d .before .before .before .before .if4 .taken) (description played))
-
-returns-5 : tie.Need-returns-5
-returns-5 c =
-    let d = c .before .before in
-    let taken = c .take-words .ensures in
-    (omega arith, status (d .before .before .before .if1 .left) (d .before .before .if2 .left) (d .before .if3 .left) (d .if4 .left) (taken .1 .1) (taken .0))
+    let a = c .before .before .before .before .before .before .before .before .before .before .before .args in
+    c .before .before .play-offer .ensures (now (a .records)) (now (a .words)) (a .count)
 
 pub play-field-spec : {M : Type 1} → statement M
 play-field-spec =
     tie.close
     (tie.spec
-    slice-aggregate-message-line
-    (λ c κs. search needs)
-    (λ c. search needs)
     returns
+    slice-aggregate-message-line
     (λ c κs. search needs)
     (λ c. search needs)
     returns-2
     (λ c κs. search needs)
     (λ c. search needs)
     returns-3
-    (λ c κs. search needs)
+    play-offer-requires
     (λ c. search needs)
-    returns-4
-    (λ c κs. search needs)
-    (λ c. search needs)
-    returns-5)
+    returns-4)

@@ -5,7 +5,7 @@ use mathlib.Core.List.{[], _∷_}
 use lib.Dec.{eqb, leb}
 use borrow.Author.Tests.{ne-eqb}
 use Rattle.rules.specs.Table.{_gives_, firstOf}
-use Rattle.recording_fields.specs.Tags.{lengthGood}
+use Rattle.rules.specs.Recording.{lengthGood}
 use Rattle.recording_fields.proofs.tag.length_good.Statement.{statement}
 use Rattle.recording_fields.proofs.tag.length_good.Tie as tie
 

@@ -7,14 +7,14 @@ use native.Mathlib.Omega.{arith}
 use borrow.Author.Needs.{needs}
 use lib.ListN.{length, getD, set, take, drop, length-set}
 use denote.Ref.{now}
-use Rattle.recording_fields.specs.Words.{statusWords}
-use Rattle.recording_fields.proofs.Taken.{taken, taken-length, taken-at, next-word, all-words}
+use Rattle.rules.specs.Recording.{wordLimit, wordsIn}
+use Rattle.recording_fields.proofs.Taken.{taken-length, taken-at, next-word, all-words}
 use Rattle.recording_fields.proofs.words.take_words.Statement.{statement}
 use Rattle.recording_fields.proofs.words.take_words.Tie as tie
 
 abbrev Inv-loop : tie.InvT-loop
 Inv-loop body memory₀ whole i₀ memory i =
-    (i ≤ length body / 4) × (i ≤ statusWords) × (memory ≡ take i (taken body) ++ drop i memory₀) × (length memory ≡ statusWords) × (length memory₀ ≡ statusWords)
+    (i ≤ length body / 4) × (i ≤ wordLimit) × (memory ≡ take i (wordsIn body) ++ drop i memory₀) × (length memory ≡ wordLimit) × (length memory₀ ≡ wordLimit)
 
 abbrev μ-loop : tie.MeasureT-loop
 μ-loop body memory₀ whole i₀ memory i = length body / 4 - i
@@ -27,9 +27,9 @@ returns c =
     let a = c .before .before .before .before .before .args in
     let l = c .before .before .loop in
     let body = now (a .body) in
-    let size : l .i ≡ length (taken body) = omega (arith, taken-length body) in (
+    let size : l .i ≡ length (wordsIn body) = omega (arith, taken-length body) in (
       size,
-      (omega arith, l .inv .2 ∙ all-words (now (a .words)) (taken body) (l .i) size),
+      (omega arith, l .inv .2 ∙ all-words (now (a .words)) (wordsIn body) (l .i) size),
     )
 
 loop-again : tie.Need-loop-again Inv-loop μ-loop
@@ -40,15 +40,15 @@ loop-again c =
     let l = at-loop .loop in
     let body = now (a .body) in
     let held = now (a .words) in
-    let word : c .joined .result ≡ getD (taken body) (l .i) 0 =
+    let word : c .joined .result ≡ getD (wordsIn body) (l .i) 0 =
     c .joined .ensures ∙ sym (taken-at body (l .i) (omega arith) (omega arith))
     in (
       omega arith,
       omega arith,
       ap (λ (x : ℕ). set (l .memory) (l .i) x) word
-          ∙ ap (λ (m : List ℕ). set m (l .i) (getD (taken body) (l .i) 0)) (l .inv .2)
-          ∙ next-word held (taken body) (l .i) (omega arith) (omega (arith, taken-length body))
-          ∙ ap (λ (n : ℕ). take n (taken body) ++ drop n held) (sym (add-one (l .i))),
+          ∙ ap (λ (m : List ℕ). set m (l .i) (getD (wordsIn body) (l .i) 0)) (l .inv .2)
+          ∙ next-word held (wordsIn body) (l .i) (omega arith) (omega (arith, taken-length body))
+          ∙ ap (λ (n : ℕ). take n (wordsIn body) ++ drop n held) (sym (add-one (l .i))),
       length-set (l .memory) (l .i) (c .joined .result) ∙ l .inv .3,
       l .inv .4,
     )
@@ -58,9 +58,9 @@ returns-2 c =
     let a = c .before .before .before .before .args in
     let l = c .before .loop in
     let body = now (a .body) in
-    let size : l .i ≡ length (taken body) = omega (arith, taken-length body) in (
+    let size : l .i ≡ length (wordsIn body) = omega (arith, taken-length body) in (
       size,
-      (omega arith, l .inv .2 ∙ all-words (now (a .words)) (taken body) (l .i) size),
+      (omega arith, l .inv .2 ∙ all-words (now (a .words)) (wordsIn body) (l .i) size),
     )
 
 pub take-words-spec : {M : Type 1} → statement M

@@ -1,6 +1,6 @@
 -- `recording_lines::append_answer` meets its contract: `-` where nothing was written.
 use borrow.Author.Tests.{eq-eqb, ne-eqb}
-use Rattle.recording_lines.specs.Lines.{answerText}
+use Rattle.rules.specs.Text.{answerText}
 use borrow.Author.Needs.{needs}
 use Rattle.recording_lines.proofs.message.append_answer.Statement.{statement}
 use Rattle.recording_lines.proofs.message.append_answer.Tie as tie

@@ -2,7 +2,7 @@
 use native.Mathlib.Omega.{arith}
 use denote.Ref.{now}
 use borrow.Author.Needs.{needs}
-use Rattle.recording_texts.specs.Digits.{decimalIn}
+use Rattle.rules.specs.Text.{decimalIn}
 use Rattle.recording_lines.proofs.Laid.{laid-end}
 use Rattle.recording_lines.proofs.message.append_digits.Statement.{statement}
 use Rattle.recording_lines.proofs.message.append_digits.Tie as tie

@@ -8,7 +8,7 @@ use lib.ListN.{length, getD, set, take, length-set}
 use lib.Seq.{take-length}
 use denote.Ref.{now}
 use borrow.Author.Needs.{needs}
-use Rattle.recording_texts.specs.Digits.{glyph, hexOf}
+use Rattle.rules.specs.Text.{glyph, hexOf}
 use Rattle.recording_texts.specs.Texts.{laid}
 use Rattle.recording_texts.proofs.Printing.{laid-none}
 use Rattle.recording_lines.proofs.Laid.{high-digit, laid-hex, length-hex}

@@ -5,7 +5,7 @@ use mathlib.Core.Path.{_≡_, refl, ap, _∙_}
 use native.Mathlib.Omega.{arith}
 use lib.ListN.{length, length-set}
 use denote.Ref.{now}
-use Rattle.recording_texts.specs.Digits.{decimalIn}
+use Rattle.rules.specs.Text.{decimalIn}
 use Rattle.recording_texts.specs.Texts.{laid}
 use Rattle.recording_lines.proofs.Digits.{lastDigits, last-all, laid-lower}
 use Rattle.recording_texts.proofs.Printing.{laid-none}

@@ -5,7 +5,7 @@ use lib.ListN.{length}
 use lib.Dec.{leb}
 use borrow.Author.Tests.{le-leb, lt-leb}
 use denote.Ref.{now}
-use Rattle.recording_lines.specs.Lines.{messageLine}
+use Rattle.rules.specs.Recording.{messageLine}
 use Rattle.recording_texts.proofs.Printing.{nothing-printed, all-printed}
 use Rattle.recording_texts.specs.Texts.{lineSize}
 use Rattle.rules.specs.Message.{largestAnswer}

@@ -9,9 +9,7 @@ use lib.ListN.{length, length-append}
 use lib.Dec.{eqb, ltb}
 use denote.Ref.{now}
 use Rattle.rules.specs.Outcome.{outcomeNumber}
-use Rattle.recording_texts.specs.Digits.{decimalOf}
-use Rattle.recording_texts.specs.Texts.{outcomeName}
-use Rattle.recording_lines.specs.Lines.{answerText}
+use Rattle.rules.specs.Text.{decimalOf, outcomeName, answerText}
 use Rattle.recording_lines.proofs.Digits.{number-short}
 use Rattle.recording_lines.proofs.Laid.{laid-both, answer-short}
 use borrow.Author.Needs.{needs}

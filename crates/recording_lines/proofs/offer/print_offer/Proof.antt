@@ -7,12 +7,13 @@ use lib.Seq.{length-take-le}
 use borrow.Author.Tests.{lt-leb}
 use denote.Ref.{now}
 use Rattle.rules.specs.Verdict.{verdictNumber}
-use Rattle.recording_texts.specs.Names.{verdictLine}
+use Rattle.rules.specs.Text.{verdictLine}
 use Rattle.recording_texts.proofs.Lines.{text-short, text-is}
 use Rattle.recording_texts.specs.Texts.{lineSize, hasRoom}
 use Rattle.recording_texts.proofs.Printing.{nothing-printed}
-use Rattle.recording_lines.specs.Offers.{offerLine}
-use Rattle.recording_lines.proofs.Offers.{put-count, put-over, offer-printed}
+use Rattle.rules.specs.Recording.{offerLine}
+use Rattle.wire.proofs.Puts.{put-count, put-over}
+use Rattle.recording_lines.proofs.Offers.{offer-printed}
 use borrow.Author.Needs.{needs}
 use Rattle.recording_lines.proofs.offer.print_offer.Statement.{statement}
 use Rattle.recording_lines.proofs.offer.print_offer.Tie as tie

@@ -4,13 +4,10 @@ use native.Mathlib.Omega.{arith}
 use lib.Seq.{length-take-le}
 use denote.Ref.{now}
 use Rattle.record.specs.Memory.{memories}
-use Rattle.recording_step.proofs.Messages.{written-few, message-refused, message-played}
+use Rattle.recording_step.proofs.Calls.{written-few, message-played}
 use borrow.Author.Needs.{needs}
 use Rattle.recording_step.proofs.message.message_line.Statement.{statement}
 use Rattle.recording_step.proofs.message.message_line.Tie as tie
-
-returns : tie.Need-returns
-returns c = message-refused _ _ _ _ (c .if1 .taken)
 
 array-share-prefix-answer : tie.Need-array-share-prefix-answer
 array-share-prefix-answer c =
@@ -19,26 +16,25 @@ array-share-prefix-answer c =
 
 slice-aggregate-print-message : tie.Need-slice-aggregate-print-message
 slice-aggregate-print-message c =
-    let few = written-few (c .before .before .before .message .ensures) in
-    sym (length-take-le (c .before .before .before .message .result .written) _ (omega (arith, c .before .before .before .message .kept .1 .1 .1 .1 .1 .1 .0)))
+    let told = c .before .before .before .message in
+    let few = written-few (told .ensures) in
+    sym (length-take-le (told .result .written) _ (omega (arith, told .kept .1 .1 .1 .1 .1 .1 .0)))
 
-returns-2 : tie.Need-returns-2
-returns-2 c =
+returns : tie.Need-returns
+returns c =
     let at-message = c .before .before .before .before .before .before in
     let at-after-first = at-message .before .before in
     let at-byte-at = at-after-first .before .before in
-    let at-if1 = at-byte-at .before in
-    let start = at-if1 .before .before .before .before in
+    let start = at-byte-at .before .before .before .before in
     let a = start .args in
     let call = rw (at-byte-at .byte-at .ensures, at-after-first .after-first .ensures) at (at-message .message .ensures) in
-    message-played (memories (now (a .board)) (now (a .access)) (now (a .records))) (now (a .body)) (now (a .status)) (now (a .line)) _ _ _
-    (at-message .message .result) _ (at-if1 .if1 .left) call (c .before .before .print-message .ensures)
+    message-played (memories (now (a .board)) (now (a .access)) (now (a .records))) (now (a .line)) _ _ (start .pre) (now (a .body)) (now (a .status)) _ _
+    (at-message .message .result) call (c .before .before .print-message .ensures)
 
 pub message-line-spec : {M : Type 1} → statement M
 message-line-spec =
     tie.close
     (tie.spec
-    returns
     (λ c κs. search needs)
     (λ c κs. search needs)
     (λ c. search needs)
@@ -47,4 +43,4 @@ message-line-spec =
     slice-aggregate-print-message
     (λ c κs. search needs)
     (λ c. search needs)
-    returns-2)
+    returns)

@@ -2,7 +2,8 @@
 use Prim.Native.Nat.{ℕ, _+_, _%_}
 use mathlib.Core.Path.{refl, sym, ap, ap₂, _∙_}
 use mathlib.Core.List.{[], _∷_}
-use Rattle.recording_texts.specs.Names.{verdictLetter, verdictLine, loopLine}
+use Rattle.rules.specs.Text.{verdictLetter, verdictLine}
+use Rattle.recording_texts.specs.Names.{loopLine}
 use Rattle.recording_texts.proofs.Lines.{ten-line, plain-line, told}
 use borrow.Author.Needs.{needs}
 use Rattle.recording_texts.proofs.verdict.verdict_text.Statement.{statement}

@@ -1,0 +1,89 @@
+// Where a record stands: in the carry or in the piece. What comes next is found first, as a cursor; the part
+// of one of the two lent slices is taken by it. The rules are specs/Pending.antt.
+ghost use mathlib.Core.Path.{_≡_};
+ghost use Prim.Native.Nat.{_-_, _≤_};
+ghost use lib.ListN.{length, take, drop};
+ghost use Rattle.rules.specs.Recording.{found};
+ghost use Rattle.recording_feed.specs.Pending.{partBy, sightIn, sightOf};
+use recording_fields::find;
+use rules::Found;
+use wire::FIELD_HEAD;
+
+// The place of a record's body, from `start` up to `end`: in the carry, or else in the piece.
+pub struct Cursor {
+    pub carried: bool,
+    pub start: usize,
+    pub end: usize,
+}
+
+// What comes next in the bytes that are there.
+pub enum Sight {
+    // A whole record: its tag, and where its body stands.
+    Record(u8, Cursor),
+    // A bad record.
+    Broken,
+    // No whole record yet.
+    More,
+}
+
+// The bytes from `start` up to `end`, as far as they are there.
+fn between(bytes: &[u8], start: usize, end: usize) -> &[u8]
+    ensures { λ r. ⌜ now r ≡ take (end - start) (drop start (now (bytes .entry))) ⌝ }
+{
+    if bytes.len() < start {
+        return &bytes[..0];
+    }
+    if end < start {
+        return &bytes[..0];
+    }
+    if bytes.len() < end {
+        return &bytes[start..];
+    }
+    &bytes[start..end]
+}
+
+// The part of the carry or of the piece that a cursor names.
+pub(crate) fn part<'a>(carry: &'a [u8], piece: &'a [u8], cursor: Cursor) -> &'a [u8]
+    ensures { λ r. ⌜ now r ≡ partBy (now (carry .entry)) (now (piece .entry)) cursor ⌝ }
+{
+    let start = cursor.start;
+    let end = cursor.end;
+    if cursor.carried {
+        return between(carry, start, end);
+    }
+    between(piece, start, end)
+}
+
+// What stands at place `at` of the carry or of the piece.
+fn seen(bytes: &[u8], at: usize, carried: bool) -> Sight
+    ensures { λ r. ⌜ r ≡ sightIn carried at (found (drop at (now (bytes .entry)))) ⌝ }
+{
+    let found = find(bytes, at);
+    match found {
+        Found::Whole(tag, length) => {
+            let start = at + FIELD_HEAD;
+            Sight::Record(
+                tag,
+                Cursor {
+                    carried,
+                    start,
+                    end: start + length as usize,
+                },
+            )
+        }
+        Found::Bad => Sight::Broken,
+        Found::Partial => Sight::More,
+        Found::Nothing => Sight::More,
+    }
+}
+
+// What comes next: in the carry, where it holds anything, and else in the piece.
+pub(crate) fn look(carry: &[u8], held: usize, piece: &[u8], at: usize) -> Sight
+    requires { ⌜ held ≤ length (now carry) ⌝ }
+    ensures { λ r. ⌜ r ≡ sightOf (now (carry .entry)) held (now (piece .entry)) at ⌝ }
+{
+    if held == 0 {
+        return seen(piece, at, false);
+    }
+    seen(&carry[..held], 0, true)
+}
