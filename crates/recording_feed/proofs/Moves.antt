@@ -10,16 +10,17 @@ use native.Mathlib.Omega.{arith}
 use lib.ListN.{length, getD, take, drop, length-append, length-drop, length-take, take-append-drop, drop-of-length-le}
 use lib.Seq.{take-at, getD-take, drop-drop, length-take-le}
 use lib.Dec.{leb}
-use borrow.Author.Tests.{leb-true, leb-false}
+use borrow.Author.Tests.{eq-eqb, ne-eqb, leb-true, leb-false}
 use Rattle.rules.specs.declared.Found.{Found}
 use Rattle.rules.specs.Bytes.{byteAt, u16At}
 use Rattle.rules.specs.Recording.{lengthGood, found, isWhole, isBad}
-use Rattle.rules.proofs.Tests.{decide, or-left, or-right}
+use Rattle.rules.proofs.Tests.{decide, cond-true, cond-false}
 use Rattle.rules.proofs.Recording.{found-bad-length, found-whole, found-behind, tag-behind, length-behind}
 use Rattle.recording_texts.specs.Texts.{laid}
 use Rattle.recording_stream.specs.Stream.{carrySize}
-use Rattle.recording_feed.specs.Pending.{pending}
-use Rattle.recording_feed.specs.Carry.{Moved, Settled, Kept}
+use Rattle.recording_feed.specs.declared.cursor.Sight.{Sight}
+use Rattle.recording_feed.specs.Pending.{pending, sightIn, sightOf}
+use Rattle.recording_feed.specs.Carry.{Moved, Settled, Comes}
 
 -- ---- bytes of the piece behind those of the carry
 
@@ -62,18 +63,33 @@ used-up carry piece held at is =
 
 -- ---- a record completed
 
--- nothing is held, and nothing is done
-pub nothing-held : (carry piece : List ℕ) (held at : ℕ) → held ≡ 0 → held ≤ length carry → at ≤ length piece → Settled carry held piece at carry 0
-nothing-held carry piece held at none fits there =
+-- nothing is held: what comes next is in the piece
+pub piece-comes : (carry piece : List ℕ) (held at : ℕ) {sight : Sight} → held ≡ 0 → at ≤ length piece → sight ≡ sightIn false at (found (drop at piece))
+    → Comes carry held piece at carry (record { sight = sight; held = held; at = at })
+unfolding sightOf
+piece-comes carry piece held at none there seen =
     record {
-      moved =
-          record {
-            same = ap₂ (λ (x y : ℕ). pending carry x piece y) (add-zero held) (add-zero at);
-            fits = omega arith;
-            there = omega arith;
-            sized = refl;
-          };
+      same = refl;
+      fits = omega arith;
+      there = there;
+      sized = refl;
+      seen = seen ∙ sym (cond-true _ _ (eq-eqb held 0 none));
       alone = λ some. absurd (omega arith);
+    }
+
+-- or it is in the carry, where that is settled
+pub carry-comes : (carry piece carry′ : List ℕ) (held at moved : ℕ) {sight : Sight} → 0 < held → Settled carry held piece at carry′ moved
+    → sight ≡ sightIn true 0 (found (drop 0 (take (held + moved) carry′)))
+    → Comes carry held piece at carry′ (record { sight = sight; held = held + moved; at = at + moved })
+unfolding sightOf
+carry-comes carry piece carry′ held at moved some settled seen =
+    record {
+      same = settled .moved .same;
+      fits = settled .moved .fits;
+      there = settled .moved .there;
+      sized = settled .moved .sized;
+      seen = seen ∙ sym (cond-false _ _ (ne-eqb (held + moved) 0 (λ e. omega arith)));
+      alone = λ more. settled .alone more ∙ ap found (sym (settled .moved .same));
     }
 
 -- the bytes that the carry holds say what comes next where the piece is used up, and where they are decided

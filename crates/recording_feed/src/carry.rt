@@ -56,14 +56,11 @@ fn settle_body(carry: &mut [u8], held: usize, piece: &[u8], at: usize) -> usize
 }
 
 // Completes the record whose beginning the carry holds, as far as the piece goes: first its tag and length,
-// then its body. Gives how many bytes were copied: none where nothing is held.
+// then its body. Gives how many bytes were copied.
 pub(crate) fn settle(carry: &mut [u8], held: usize, piece: &[u8], at: usize) -> usize
     requires { ⌜ (held ≤ length (now carry)) × (length (now carry) ≡ carrySize) × (at ≤ length (now piece)) ⌝ }
     ensures { λ r. ⌜ Settled (now (carry .entry)) held (now (piece .entry)) at (now (carry .exit)) r ⌝ }
 {
-    if held == 0 {
-        return 0;
-    }
     let first = fill(carry, held, FIELD_HEAD, piece, at);
     let there = held + first;
     if there < FIELD_HEAD {

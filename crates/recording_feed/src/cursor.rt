@@ -4,7 +4,10 @@ ghost use mathlib.Core.Path.{_≡_};
 ghost use Prim.Native.Nat.{_-_, _≤_};
 ghost use lib.ListN.{length, take, drop};
 ghost use Rattle.rules.specs.Recording.{found};
-ghost use Rattle.recording_feed.specs.Pending.{partBy, sightIn, sightOf};
+ghost use Rattle.recording_stream.specs.Stream.{carrySize};
+ghost use Rattle.recording_feed.specs.Pending.{partBy, sightIn};
+ghost use Rattle.recording_feed.specs.Carry.{Comes};
+use crate::carry::settle;
 use recording_fields::find;
 use rules::Found;
 use wire::FIELD_HEAD;
@@ -77,13 +80,29 @@ fn seen(bytes: &[u8], at: usize, carried: bool) -> Sight
     }
 }
 
-// What comes next: in the carry, where it holds anything, and else in the piece.
-pub(crate) fn look(carry: &[u8], held: usize, piece: &[u8], at: usize) -> Sight
-    requires { ⌜ held ≤ length (now carry) ⌝ }
-    ensures { λ r. ⌜ r ≡ sightOf (now (carry .entry)) held (now (piece .entry)) at ⌝ }
+// What comes next, and where: how many bytes the carry holds then, and the place in the piece.
+pub struct Next {
+    pub sight: Sight,
+    pub held: usize,
+    pub at: usize,
+}
+
+// Finds what comes next: in the piece where nothing is held, as most often, and else in the carry, to which the
+// record that begins there is completed first.
+pub(crate) fn next_record(carry: &mut [u8], held: usize, piece: &[u8], at: usize) -> Next
+    requires { ⌜ (held ≤ length (now carry)) × (length (now carry) ≡ carrySize) × (at ≤ length (now piece)) ⌝ }
+    ensures { λ r. ⌜ Comes (now (carry .entry)) held (now (piece .entry)) at (now (carry .exit)) r ⌝ }
 {
     if held == 0 {
-        return seen(piece, at, false);
+        let sight = seen(piece, at, false);
+        return Next { sight, held, at };
     }
-    seen(&carry[..held], 0, true)
+    let moved = settle(carry, held, piece, at);
+    let kept = held + moved;
+    let sight = seen(&carry[..kept], 0, true);
+    Next {
+        sight,
+        held: kept,
+        at: at + moved,
+    }
 }

@@ -6,9 +6,8 @@ mod cursor;
 
 use crate::carry::fewer;
 use crate::carry::keep;
-use crate::carry::settle;
 use crate::cursor::Sight;
-use crate::cursor::look;
+use crate::cursor::next_record;
 use crate::cursor::part;
 use access::AccessMemory;
 use board::BoardMemory;
@@ -164,10 +163,10 @@ fn feed_all(
     let mut next = at;
     let mut used = 0;
     loop {
-        let moved = settle(carry, kept, piece, next);
-        kept += moved;
-        next += moved;
-        let sight = look(carry, kept, piece, next);
+        let comes = next_record(carry, kept, piece, next);
+        kept = comes.held;
+        next = comes.at;
+        let sight = comes.sight;
         let Sight::Record(tag, cursor) = sight else {
             return stop(is_broken(sight), carry, kept, piece, next, out, used, stand);
         };
