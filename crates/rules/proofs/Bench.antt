@@ -1,5 +1,5 @@
--- The starred cases hold, those of the shared control word, of board descriptions, of roles, of waits, of blocks and of tallies: each of
--- the nine tables is checked by computing it.
+-- The starred cases hold, those of the shared control word, of board descriptions, of roles, of waits, of blocks, of tallies and of recordings: each
+-- of the ten tables is checked by computing it.
 use mathlib.Core.Path.{_≡_, refl}
 use mathlib.Core.Bool.{Bool, true}
 use mathlib.Core.List.{List, map}
@@ -9,7 +9,7 @@ use Rattle.rules.specs.Board.{boardHost, activeHost, rowOf, onBoard, cla
 use Rattle.rules.specs.Description.{nothingListed, ourDescription, bodySize, fieldGood, noItem, itemIn, fieldSize, itemsFrom, itemsIn, listsHost, listsProcessor, repeats, otherClass, isFull, itemTable, withItem, itemsTable, descriptionTable, boardVerdict, withItems, descriptionIn, described, markIn, rowIn, classIn, sharedCluster, sharedIn, homeIn, boardOf, ours}
 use Rattle.rules.specs.Substructure.{partsOf, namedIn, inTurn}
 use Rattle.rules.specs.AccessList.{noEntry, entryTable, contentTable, listTable, verdictOf, entryIn, withPart, withParts, noEntries, entriesOf, hasEntry}
-use Rattle.rules.specs.Hierarchy.{pairs, supervisorOf, meets, onLoop, firstHost, loopHost, pairTable, hierarchyTable}
+use Rattle.rules.specs.Hierarchy.{pairs, supervisorOf, meets, onLoop, firstHost, loopHost, pairTable, hierarchyTable, loopReported}
 use Rattle.rules.specs.Block.{otpTable, blockTable, blockVerdict}
 use Rattle.rules.specs.Role.{namesHost, roleTable, roleOf, permitted}
 use Rattle.rules.specs.Message.{answerAsked, kindOf, waitIn, subjectOf, namesProcessor, isAbout}
@@ -22,6 +22,8 @@ use Rattle.rules.specs.State.{listed, freeOwn, fresh, entryOf, recordIn,
 use Rattle.rules.specs.Call.{verdictTo, taken, afterOffer, afterMessage, answerTo, next}
 use Rattle.rules.specs.Sequence.{run}
 use Rattle.rules.specs.Warranty.{counts, countOf}
+use Rattle.rules.specs.Text.{decimalIn, hexOf, answerText}
+use Rattle.rules.specs.Recording.{lengthGood, found, inFront, splitIn, split, wordsFrom, wordsIn, offerLine, messageLine, lineOf, called, standing, carryOut, linesOf, transcript, firstSession}
 use Rattle.rules.specs.Bench.{Case, givenIn, answerGiven, starred}
 use Rattle.rules.specs.BenchCluster.{clustered}
 use Rattle.rules.specs.BenchBoard.{hostsFrom, processorsFrom, boarded}
@@ -29,6 +31,7 @@ use Rattle.rules.specs.BenchRole.{RoleCase, shownIn, roled}
 use Rattle.rules.specs.BenchWait.{counted}
 use Rattle.rules.specs.BenchBlock.{LoopCase, hierarchyOf, blocked, looped}
 use Rattle.rules.specs.BenchTally.{TallyCase, heldFrom, talliedIn, tallied, CountCase, workedOut, countedIn, totalled}
+use Rattle.rules.specs.BenchRecording.{RecordingCase, wordBytes, recorded}
 
 -- every case of a table gives what it says
 abbrev pub Hold : List Case → Type 0
@@ -49,9 +52,13 @@ Counts cases = map (λ (c : TallyCase). talliedIn (heldFrom (c .holder) (c .befo
 abbrev pub Totals : List CountCase → Type 0
 Totals cases = map (λ (c : CountCase). countedIn (fresh ours) c) cases ≡ map (λ (c : CountCase). (c .left, c .left)) cases
 
+-- and every recording prints what its case says
+abbrev pub Prints : List RecordingCase → Type 0
+Prints cases = map (λ (c : RecordingCase). transcript firstSession (c .bytes)) cases ≡ map (λ (c : RecordingCase). c .prints) cases
+
 -- what a case is computed with: to unfold this is to unfold all that its line names
 computed : Bool
-unfolding heldFrom talliedIn workedOut countedIn noTallies countsFor oneMore tallyAfter talliesAfter counts countOf isAbout namesProcessor supervisorOf meets onLoop firstHost loopHost pairTable hierarchyTable otpTable blockTable blockVerdict shownIn hostsFrom processorsFrom nothingListed bodySize fieldGood noItem itemIn fieldSize itemsFrom itemsIn listsHost repeats otherClass isFull itemTable withItem itemsTable descriptionTable boardVerdict withItems descriptionIn described firstOf anyOf placeOf tableOf ours ourDescription listsProcessor markIn rowIn classIn sharedCluster sharedIn homeIn boardOf boardHost activeHost rowOf onBoard classAt classOf homeAt maskOf noEntry partsOf namedIn entryTable inTurn contentTable listTable verdictOf accepted entryIn withPart withParts noEntries entriesOf hasEntry namesHost roleTable roleOf permitted answerAsked kindOf waitIn subjectOf runAfter endsRun firstEnd endingCheck ranOut checksOf microsOf senderWrong wordsMissing waitFailed beforeType onType behindType admission byWords outcomeTable outcomeOf carriedOut silent recordAfter ackBytes bytesFor answerBytes answerOf waited tellsRole reportOf listed freeOwn fresh entryOf recordIn recordOf viewOf putIn stored verdictTo taken afterOffer afterMessage answerTo next run givenIn answerGiven
+unfolding wordBytes decimalIn hexOf answerText lengthGood found inFront splitIn split wordsFrom wordsIn loopReported offerLine messageLine lineOf called standing carryOut linesOf transcript firstSession heldFrom talliedIn workedOut countedIn noTallies countsFor oneMore tallyAfter talliesAfter counts countOf isAbout namesProcessor supervisorOf meets onLoop firstHost loopHost pairTable hierarchyTable otpTable blockTable blockVerdict shownIn hostsFrom processorsFrom nothingListed bodySize fieldGood noItem itemIn fieldSize itemsFrom itemsIn listsHost repeats otherClass isFull itemTable withItem itemsTable descriptionTable boardVerdict withItems descriptionIn described firstOf anyOf placeOf tableOf ours ourDescription listsProcessor markIn rowIn classIn sharedCluster sharedIn homeIn boardOf boardHost activeHost rowOf onBoard classAt classOf homeAt maskOf noEntry partsOf namedIn entryTable inTurn contentTable listTable verdictOf accepted entryIn withPart withParts noEntries entriesOf hasEntry namesHost roleTable roleOf permitted answerAsked kindOf waitIn subjectOf runAfter endsRun firstEnd endingCheck ranOut checksOf microsOf senderWrong wordsMissing waitFailed beforeType onType behindType admission byWords outcomeTable outcomeOf carriedOut silent recordAfter ackBytes bytesFor answerBytes answerOf waited tellsRole reportOf listed freeOwn fresh entryOf recordIn recordOf viewOf putIn stored verdictTo taken afterOffer afterMessage answerTo next run givenIn answerGiven
 computed = true
 
 pub starred-hold : Hold starred
@@ -95,3 +102,8 @@ tallied-count = refl
 pub totalled-count : Totals totalled
 unfolding computed totalled
 totalled-count = refl
+
+-- "Session recordings"
+pub recorded-prints : Prints recorded
+unfolding computed recorded
+recorded-prints = refl

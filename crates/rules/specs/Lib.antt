@@ -30,3 +30,4 @@ pub mod BenchRole
 pub mod BenchWait
 pub mod BenchBlock
 pub mod BenchTally
+pub mod BenchRecording
