@@ -43,16 +43,9 @@ pub(crate) fn message_line(
         ⌝ }
 {
     let mut answer = [0u8; ANSWER_BYTES];
+    let sent = after_first(body);
     let channel = byte_at(body, 0);
-    let told = message(
-        board,
-        access,
-        records,
-        channel,
-        after_first(body),
-        status,
-        &mut answer,
-    );
+    let told = message(board, access, records, channel, sent, status, &mut answer);
     let written = told.written;
     print_message(line, told, &answer[..written])
 }

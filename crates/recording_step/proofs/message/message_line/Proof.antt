@@ -23,9 +23,9 @@ slice-aggregate-print-message c =
 returns : tie.Need-returns
 returns c =
     let at-message = c .before .before .before .before .before .before in
-    let at-after-first = at-message .before .before in
-    let at-byte-at = at-after-first .before .before in
-    let start = at-byte-at .before .before .before .before in
+    let at-byte-at = at-message .before .before .before in
+    let at-after-first = at-byte-at .before in
+    let start = at-after-first .before .before .before .before in
     let a = start .args in
     let call = rw (at-byte-at .byte-at .ensures, at-after-first .after-first .ensures) at (at-message .message .ensures) in
     message-played (memories (now (a .board)) (now (a .access)) (now (a .records))) (now (a .line)) _ _ (start .pre) (now (a .body)) (now (a .status)) _ _
