@@ -42,7 +42,9 @@ pub const LONGEST_BLOCK: usize = 512;
 /// The longest list that a recording can hold.
 pub const LONGEST_LIST: usize = 512;
 
-const LONGEST_STATUS: usize = 1020;
+/// The longest run of status words that a recording can hold, in bytes.
+pub const LONGEST_STATUS: usize = 1020;
+
 const LONGEST_MESSAGE_FIELD: usize = 512;
 
 /// What one field of a recording came to.
@@ -60,11 +62,9 @@ pub enum Event {
     Cut,
 }
 
-/// A recording that is being replayed.
-pub struct Session<R> {
-    input: R,
-    ended: bool,
-    body: Vec<u8>,
+/// What the fields of a recording have left so far.
+#[derive(Clone, Debug, PartialEq, Eq)]
+pub struct State {
     /// what the descriptions have left
     pub board: Board,
     /// what the lists and blocks have left
@@ -75,29 +75,68 @@ pub struct Session<R> {
     pub status: Vec<u32>,
 }
 
-impl<R: Read> Session<R> {
-    /// Starts with the first board, no list, all processors free, all words zero and no status
-    /// words.
-    pub fn new(input: R) -> Session<R> {
-        Session {
-            input,
-            ended: false,
-            body: Vec::new(),
+impl Default for State {
+    /// The first board, no list, all processors free, all words zero and no status words.
+    fn default() -> State {
+        State {
             board: Board::first(),
             access: [0; ACCESS_WORDS],
             records: [0; RECORD_WORDS],
             status: Vec::new(),
         }
     }
+}
+
+impl State {
+    /// What the next message is judged by.
+    pub fn setup(&self) -> Setup<'_> {
+        Setup { board: &self.board, access: &self.access }
+    }
+
+    /// Carries out a whole field with a good tag and length.
+    pub fn carry_out(&mut self, tag: u8, body: &[u8]) -> Event {
+        match tag {
+            TAG_LIST => Event::List(accept_list(&self.board, &mut self.access, body)),
+            TAG_BLOCK => {
+                Event::Block(accept_block(&self.board, &mut self.access, RECORDED_ABI, body))
+            }
+            TAG_BOARD => Event::Board(take_board(&mut self.board, &self.access, body)),
+            TAG_STATUS => {
+                self.status.clear();
+                self.status.extend(body.chunks_exact(4).map(|word| u32_at(word, 0)));
+                Event::Status
+            }
+            _ => self.send(body),
+        }
+    }
+
+    fn send(&mut self, body: &[u8]) -> Event {
+        let call = call_of(body, &self.status);
+        let mut answer = [0; ANSWER_BYTES];
+        let setup = Setup { board: &self.board, access: &self.access };
+        let report = handle(setup, &mut self.records, &call, &mut answer);
+        Event::Message(report, answer)
+    }
+}
+
+/// A recording that is being replayed.
+pub struct Session<R> {
+    input: R,
+    ended: bool,
+    body: Vec<u8>,
+    /// what the fields have left
+    pub state: State,
+}
+
+impl<R: Read> Session<R> {
+    /// Starts at the first field.
+    pub fn new(input: R) -> Session<R> {
+        Session { input, ended: false, body: Vec::new(), state: State::default() }
+    }
 
     /// The body of the last field: for a message, the channel host and the message.
     pub fn body(&self) -> &[u8] {
         &self.body
-    }
-
-    /// What the next message is judged by.
-    pub fn setup(&self) -> Setup<'_> {
-        Setup { board: &self.board, access: &self.access }
     }
 
     /// Replays the next field; none once the recording is over.
@@ -110,7 +149,7 @@ impl<R: Read> Session<R> {
         Ok(event)
     }
 
-    /// Reads and judges tag, then length, then body, and runs the field.
+    /// Reads and judges tag, then length, then body, and carries out the field.
     fn replay_field(&mut self) -> io::Result<Option<Event>> {
         let mut tag = [0];
         if read_up_to(&mut self.input, &mut tag)? == 0 {
@@ -131,34 +170,7 @@ impl<R: Read> Session<R> {
         if read_up_to(&mut self.input, &mut self.body)? < length {
             return Ok(Some(Event::Cut));
         }
-        Ok(Some(self.run(tag[0])))
-    }
-
-    /// Runs the field whose body was read.
-    fn run(&mut self, tag: u8) -> Event {
-        match tag {
-            TAG_LIST => Event::List(accept_list(&self.board, &mut self.access, &self.body)),
-            TAG_BLOCK => self.run_block(),
-            TAG_BOARD => Event::Board(take_board(&mut self.board, &self.access, &self.body)),
-            TAG_STATUS => {
-                self.status.clear();
-                self.status.extend(self.body.chunks_exact(4).map(|word| u32_at(word, 0)));
-                Event::Status
-            }
-            _ => self.run_message(),
-        }
-    }
-
-    fn run_block(&mut self) -> Event {
-        Event::Block(accept_block(&self.board, &mut self.access, RECORDED_ABI, &self.body))
-    }
-
-    fn run_message(&mut self) -> Event {
-        let call = call_of(&self.body, &self.status);
-        let mut answer = [0; ANSWER_BYTES];
-        let setup = Setup { board: &self.board, access: &self.access };
-        let report = handle(setup, &mut self.records, &call, &mut answer);
-        Event::Message(report, answer)
+        Ok(Some(self.state.carry_out(tag[0], &self.body)))
     }
 }
 
@@ -168,7 +180,7 @@ pub fn call_of<'a>(body: &'a [u8], status: &'a [u32]) -> Call<'a> {
 }
 
 /// Whether a field with this good tag may have this length.
-fn is_good_length(tag: u8, length: usize) -> bool {
+pub fn is_good_length(tag: u8, length: usize) -> bool {
     match tag {
         TAG_LIST => length <= LONGEST_LIST,
         TAG_BLOCK => length <= LONGEST_BLOCK,

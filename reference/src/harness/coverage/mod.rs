@@ -55,7 +55,7 @@ impl Coverage {
         let mut lines = Vec::new();
         let mut session = Session::new(recording);
         let (mut watch, mut history) = (Watch::default(), History::default());
-        let mut before = session.records;
+        let mut before = session.state.records;
         // Reading from memory and writing to it do not fail.
         while let Ok(Some(event)) = session.next_event() {
             let _ = write_line(&mut lines, &event);
@@ -63,17 +63,17 @@ impl Coverage {
             history.follow(&event);
             match event {
                 Event::List(verdict) => {
-                    let (board, list) = (&session.board, session.body());
+                    let (board, list) = (&session.state.board, session.body());
                     self.count_list(&Listed { board, list, verdict });
                 }
                 Event::Block(verdict) => {
-                    let (board, abi, block) = (&session.board, RECORDED_ABI, session.body());
+                    let (board, abi, block) = (&session.state.board, RECORDED_ABI, session.body());
                     self.count_block(&Offered { board, abi, block, verdict });
                 }
                 Event::Message(report, _) => {
-                    let call = call_of(session.body(), &session.status);
-                    let seen = watch.see(session.setup(), &before, &call, report);
-                    let met = Met { setup: session.setup(), call, report };
+                    let call = call_of(session.body(), &session.state.status);
+                    let seen = watch.see(session.state.setup(), &before, &call, report);
+                    let met = Met { setup: session.state.setup(), call, report };
                     self.count_message(&met, seen.as_ref());
                 }
                 Event::Board(verdict) => {
@@ -84,7 +84,7 @@ impl Coverage {
                 }
                 Event::Status | Event::Bad | Event::Cut => {}
             }
-            before = session.records;
+            before = session.state.records;
         }
         lines
     }
