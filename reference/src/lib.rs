@@ -3,8 +3,8 @@
 //!
 //! `board`, `bytes`, `outcome`, `record`, `message` and `wait` are the parts; `description`,
 //! `access`, `block` and `manager` are the board call, the list call, the block call and the
-//! message call over lent memory; `session` replays recordings. `bench` has the fixed cases, and
-//! `harness` makes and compares the random ones.
+//! message call over lent memory; `session` replays recordings, and `stream` those that come in
+//! pieces. `bench` has the fixed cases, and `harness` makes and compares the random ones.
 
 pub mod access;
 pub mod bench;
@@ -20,4 +20,5 @@ pub mod record;
 pub mod session;
 #[cfg(feature = "static-library")]
 pub mod static_library;
+pub mod stream;
 pub mod wait;

@@ -3,6 +3,7 @@
 
 pub mod blocks;
 pub mod clients;
+pub mod cuts;
 pub mod descriptions;
 pub mod drafts;
 pub mod goals;
