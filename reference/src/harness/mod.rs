@@ -19,4 +19,6 @@ pub enum Run {
     Recordings,
     /// take calls to its static library
     Calls,
+    /// take recordings in pieces
+    Pieces,
 }

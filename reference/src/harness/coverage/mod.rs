@@ -2,8 +2,11 @@
 
 mod blocks;
 mod faults;
+mod pieces;
 mod roles;
 mod verdicts;
+
+pub use pieces::PieceCoverage;
 
 use std::collections::BTreeSet;
 use std::fmt::Write;

@@ -5,6 +5,7 @@ mod boards;
 mod fields;
 mod hierarchies;
 mod orders;
+mod pieces;
 mod roles;
 mod seen;
 mod sessions;
@@ -14,6 +15,7 @@ mod waits;
 pub use blocks::Offered;
 pub use boards::{Listed, Offer};
 pub use fields::{Field, History};
+pub use pieces::{Ending, Feeding, PieceWatch};
 pub use seen::{Met, Seen, Watch};
 pub use sessions::LongSession;
 
@@ -25,7 +27,7 @@ const BOTH: &[Run] = &[Run::Recordings, Run::Calls];
 type Named<T> = &'static [(&'static str, T)];
 
 /// The whole table. Only calls can meet long sessions and what no list, description or recording
-/// leaves or says; only recordings have fields one behind the other.
+/// leaves or says; only recordings have fields one behind the other, and only pieces have cuts.
 fn table() -> Vec<Situation> {
     [
         group(BOTH, orders::ORDERS, Test::Order),
@@ -44,6 +46,8 @@ fn table() -> Vec<Situation> {
         group(&[Run::Calls], boards::ODDITIES, Test::Order),
         group(&[Run::Calls], sessions::SESSIONS, Test::Session),
         group(&[Run::Recordings], fields::FIELDS, Test::Field),
+        group(&[Run::Pieces], pieces::FEEDINGS, Test::Feeding),
+        group(&[Run::Pieces], pieces::ENDINGS, Test::Ending),
     ]
     .concat()
 }
@@ -71,9 +75,11 @@ enum Test {
     Board(fn(&Offer) -> bool),
     Field(fn(&Field) -> bool),
     Session(fn(&LongSession) -> bool),
+    Feeding(fn(&Feeding) -> bool),
+    Ending(fn(&Ending) -> bool),
 }
 
-/// What was observed of one call, of one field of a recording or of one session.
+/// What was observed of one call, of one field of a recording, of one session or of one piece.
 #[derive(Clone, Copy)]
 pub enum Observed<'a> {
     Message(&'a Met<'a>),
@@ -84,6 +90,8 @@ pub enum Observed<'a> {
     Board(&'a Offer<'a>),
     Field(&'a Field<'a>),
     Session(&'a LongSession),
+    Feeding(&'a Feeding<'a>),
+    Ending(&'a Ending<'a>),
 }
 
 impl Test {
@@ -96,6 +104,8 @@ impl Test {
             (Test::Board(test), Observed::Board(offer)) => test(offer),
             (Test::Field(test), Observed::Field(field)) => test(field),
             (Test::Session(test), Observed::Session(session)) => test(session),
+            (Test::Feeding(test), Observed::Feeding(feeding)) => test(feeding),
+            (Test::Ending(test), Observed::Ending(ending)) => test(ending),
             _ => false,
         }
     }
