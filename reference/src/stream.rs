@@ -1,6 +1,8 @@
 //! A recording that is delivered in pieces of any size: what is carried from one piece to the next,
 //! what is printed into an output of some length, and how the recording ends.
 
+pub mod lent;
+
 use std::mem;
 
 use crate::bytes::u16_at;

@@ -5,3 +5,4 @@ pub mod block_recordings;
 pub mod blocks;
 pub mod boards;
 pub mod recordings;
+pub mod worked;

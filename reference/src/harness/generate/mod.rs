@@ -12,5 +12,6 @@ pub mod memories;
 mod operands;
 pub mod random;
 pub mod recordings;
+pub mod streams;
 pub mod timing;
 mod waits;

@@ -3,9 +3,7 @@
 use crate::access::AccessMemory;
 use crate::board::{Board, BoardMemory};
 use crate::harness::compare::calls::same;
-
-/// Words or bytes on each side of what is lent, which must keep their values.
-const GUARD: usize = 5;
+use crate::harness::compare::guards::{guarded, lent_part};
 
 const BYTE: u8 = 0x5A;
 const HALF_WORD: u16 = 0x5AA5;
@@ -32,21 +30,4 @@ impl Lent {
         same("board memory", &guarded(&board.0, BYTE), &self.board)?;
         same("access memory", &guarded(access, HALF_WORD), &self.access)
     }
-}
-
-/// The content with guards before and behind it. They put bytes at an odd address.
-pub fn guarded<T: Copy>(content: &[T], guard: T) -> Vec<T> {
-    let guards = [guard; GUARD];
-    [&guards, content, &guards].concat()
-}
-
-/// What lies between the guards.
-pub fn between_guards<T>(guarded: &mut [T]) -> &mut [T] {
-    let end = guarded.len() - GUARD;
-    &mut guarded[GUARD..end]
-}
-
-/// A memory that lies between the guards, to be lent.
-pub fn lent_part<T, const N: usize>(guarded: &mut [T]) -> &mut [T; N] {
-    between_guards(guarded).first_chunk_mut().expect("the content lies between guards")
 }

@@ -1,8 +1,9 @@
 //! Compares message calls over memories of any content, with answer buffers of any length.
 
 use crate::harness::compare::calls::same;
+use crate::harness::compare::guards::{between_guards, guarded, lent_part};
 use crate::harness::compare::library::hex;
-use crate::harness::compare::library::lent::{between_guards, guarded, lent_part, Lent};
+use crate::harness::compare::library::lent::Lent;
 use crate::harness::coverage::Coverage;
 use crate::harness::generate::drafts::{any_focus, draft, Scene, LONGEST_RECORDED};
 use crate::harness::generate::goals::{goals, pick_goal, Goal};
