@@ -1,4 +1,5 @@
-//! Tells the linker where the first implementation's static library is, when it is asked for.
+//! Tells the linker where the first implementation's two static libraries are, when they are asked
+//! for.
 
 use std::env;
 
@@ -9,8 +10,10 @@ fn main() {
         return;
     }
     let folder = env::var("POMROZEK_STATICLIB_DIR")
-        .expect("POMROZEK_STATICLIB_DIR names the folder that holds libpomrozek.a");
-    println!("cargo:rerun-if-changed={folder}/libpomrozek.a");
+        .expect("POMROZEK_STATICLIB_DIR names the folder that holds the two archives");
     println!("cargo:rustc-link-search=native={folder}");
-    println!("cargo:rustc-link-lib=static=pomrozek");
+    for library in ["pomrozek", "pomrozek_replay"] {
+        println!("cargo:rerun-if-changed={folder}/lib{library}.a");
+        println!("cargo:rustc-link-lib=static={library}");
+    }
 }

@@ -17,6 +17,8 @@ pub mod manager;
 pub mod message;
 pub mod outcome;
 pub mod record;
+#[cfg(feature = "static-library")]
+pub mod replay_library;
 pub mod session;
 #[cfg(feature = "static-library")]
 pub mod static_library;

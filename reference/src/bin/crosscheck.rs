@@ -1,5 +1,6 @@
-//! Compares the first implementation with the model: its replay program over recordings, and its
-//! static library over calls. Ends with `crosscheck: ok` and exit 0, or names the first difference.
+//! Compares the first implementation with the model: its replay program over recordings, its static
+//! library over calls, and its replay library over recordings in pieces. Ends with `crosscheck: ok`
+//! and exit 0, or names the first difference.
 
 use std::path::{Path, PathBuf};
 use std::process::ExitCode;
@@ -9,12 +10,17 @@ use pomrozek_reference::bench::cases;
 use pomrozek_reference::harness::compare::calls::Model;
 use pomrozek_reference::harness::compare::cases::{recording_of, run_case};
 use pomrozek_reference::harness::compare::library::{
-    compare_blocks, compare_boards, compare_lists, compare_messages, compare_starts, StaticLibrary,
+    compare_blocks, compare_boards, compare_lists, compare_messages, compare_starts, ReplayLibrary,
+    StaticLibrary,
 };
 use pomrozek_reference::harness::compare::long_sessions::compare_sessions;
+use pomrozek_reference::harness::compare::pieces::{
+    compare_contents, compare_recording, compare_worked,
+};
 use pomrozek_reference::harness::compare::program::{first_difference, keep, run};
-use pomrozek_reference::harness::coverage::Coverage;
+use pomrozek_reference::harness::coverage::{Coverage, PieceCoverage};
 use pomrozek_reference::harness::edges::recordings::edge_recordings;
+use pomrozek_reference::harness::edges::worked::WORKED;
 use pomrozek_reference::harness::generate::recordings::recording;
 use pomrozek_reference::harness::Run;
 
@@ -27,6 +33,7 @@ const LIBRARY_BLOCKS: u64 = 40_000;
 const LIBRARY_BOARDS: u64 = 40_000;
 const LIBRARY_STARTS: u64 = 1_000;
 const LIBRARY_SESSIONS: u64 = 120;
+const LIBRARY_MEMORIES: u64 = 20_000;
 
 /// Bytes fed to the program at once: mostly all of them, sometimes so few that reads come short.
 const PIECES: [usize; 5] = [usize::MAX, usize::MAX, usize::MAX, 1000, 7];
@@ -85,16 +92,20 @@ fn check(options: &Options) -> Result<String, String> {
     check_cases(&options.replay)?;
     let (recordings, replayed) = check_recordings(options)?;
     let called = check_library(options.seed)?;
+    let fed = check_pieces(options)?;
     let gaps = [
         named("recordings", replayed.gaps(Run::Recordings)),
         named("library calls", called.gaps(Run::Calls)),
+        named("pieces", fed.gaps()),
     ];
     if !gaps.concat().is_empty() {
         return Err(format!("not reached, or not possible\n{}", gaps.concat().join("\n")));
     }
     let calls = called.message_total() + called.offer_total() + LIBRARY_STARTS;
-    let messages = replayed.message_total();
-    Ok(format!("{recordings} recordings, {messages} messages, {calls} library calls"))
+    let (messages, pieces) = (replayed.message_total(), fed.pieces);
+    Ok(format!(
+        "{recordings} recordings, {messages} messages, {calls} library calls, {pieces} pieces"
+    ))
 }
 
 /// The gaps with the part that left them.
@@ -149,11 +160,16 @@ fn describe(
     recording: &[u8],
     (line, expected, given): (usize, String, String),
 ) -> String {
-    let kept = match keep(recording, seed, number) {
+    let kept = kept(seed, number, recording);
+    format!("recording {number} ({kept}), line {line}\n model   {expected}\n program {given}")
+}
+
+/// Keeps the recording; says where.
+fn kept(seed: u64, number: u64, recording: &[u8]) -> String {
+    match keep(recording, seed, number) {
         Ok(path) => path.display().to_string(),
         Err(error) => format!("not kept: {error}"),
-    };
-    format!("recording {number} ({kept}), line {line}\n model   {expected}\n program {given}")
+    }
 }
 
 /// Calls to the static library.
@@ -166,5 +182,24 @@ fn check_library(seed: u64) -> Result<Coverage, String> {
     compare_blocks(seed, LIBRARY_BLOCKS, &mut coverage)?;
     compare_sessions(&StaticLibrary, seed, LIBRARY_SESSIONS, &mut coverage)?;
     println!("library calls, not asked/asked by outcome:\n{}", coverage.table(Run::Calls));
+    Ok(coverage)
+}
+
+/// The worked sessions cut at every place, every recording whole, byte by byte and cut at random
+/// places, and memories of any content, through the replay library and the model.
+fn check_pieces(options: &Options) -> Result<PieceCoverage, String> {
+    let seed = options.seed;
+    let mut coverage = PieceCoverage::default();
+    compare_worked(&ReplayLibrary, seed, &WORKED, &mut coverage)?;
+    let mut fixed: Vec<_> = cases().iter().map(|case| recording_of(case).0).collect();
+    fixed.extend(edge_recordings());
+    let random = (0..options.recordings).map(|number| recording(seed, number));
+    for (number, recording) in (0..).zip(fixed.into_iter().chain(random)) {
+        compare_recording(&ReplayLibrary, (seed, number), &recording, &mut coverage).map_err(
+            |text| format!("recording {number} ({}), {text}", kept(seed, number, &recording)),
+        )?;
+    }
+    compare_contents(&ReplayLibrary, seed, LIBRARY_MEMORIES, &mut coverage)?;
+    println!("pieces: {}", coverage.table());
     Ok(coverage)
 }

@@ -1,5 +1,5 @@
-//! The static library: its calls with the lines that tell of them, and comparisons with the model
-//! on what a recording cannot say.
+//! The static libraries: their calls with the lines that tell of them, and comparisons with the
+//! model on what a recording cannot say.
 
 mod lent;
 mod messages;
@@ -11,8 +11,11 @@ pub use offers::{compare_blocks, compare_boards, compare_lists, compare_starts};
 use crate::block::Abi;
 use crate::board::{Board, BOARD_BYTES};
 use crate::harness::compare::calls::{Calls, Memory};
+use crate::harness::compare::pieces::Replays;
 use crate::manager::Call;
+use crate::replay_library;
 use crate::static_library::{self, RawReport, RawVerdict};
+use crate::stream::lent::Lent;
 
 /// The calls of the static library, with its numbers turned into lines.
 pub struct StaticLibrary;
@@ -67,6 +70,23 @@ impl Calls for StaticLibrary {
             _ => answer.get(..written as usize).map_or("more than the buffer".into(), hex),
         };
         (format!("{name} {checks} {microseconds} {bytes}"), role)
+    }
+}
+
+/// The calls of the static library that replays recordings in pieces.
+pub struct ReplayLibrary;
+
+impl Replays for ReplayLibrary {
+    fn start(&self, lent: Lent) {
+        replay_library::start(lent);
+    }
+
+    fn feed(&self, lent: Lent, piece: &[u8], out: &mut [u8]) -> u32 {
+        replay_library::feed(lent, piece, out)
+    }
+
+    fn end(&self, lent: Lent, out: &mut [u8]) -> u32 {
+        replay_library::end(lent, out)
     }
 }
 
