@@ -23,12 +23,13 @@ const BUFFER_BYTES: usize = 65536;
 type Buffer = [u8; BUFFER_BYTES];
 
 // Where a session stands between two turns: how many bytes the carry holds, how many status words stand, the
-// place in the piece and its end, and whether the session goes on.
+// place in the piece and its end, whether a record waits for room, and whether the session goes on.
 pub struct Stand {
     pub held: usize,
     pub words: u8,
     pub at: usize,
     pub end: usize,
+    pub full: bool,
     pub goes: bool,
 }
 
@@ -69,6 +70,7 @@ fn feed_piece(
         words: fed.words,
         at: fed.at,
         end,
+        full: fed.full,
         goes: written & !fed.over,
     }
 }
@@ -95,7 +97,7 @@ fn turn(
     requires { ⌜ Within stand ⌝ }
     ensures { λ r. ⌜ Within r ⌝ }
 {
-    if stand.at < stand.end {
+    if stand.full {
         return feed_piece(board, access, records, words, carry, stand, input, output);
     }
     let got = libc::read(0, input);
@@ -106,6 +108,7 @@ fn turn(
         words: stand.words,
         at: 0,
         end,
+        full: false,
         goes: 0 < end,
     };
     if end == 0 {
@@ -130,6 +133,7 @@ fn main() {
         words: 0,
         at: 0,
         end: 0,
+        full: false,
         goes: true,
     };
     let mut turns: u64 = 0;
