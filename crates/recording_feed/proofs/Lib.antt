@@ -5,3 +5,4 @@ pub mod Turns
 pub mod Sights
 pub mod Stops
 pub mod Reach
+pub mod Theorem

@@ -54,11 +54,11 @@ pub reach-same : {s : Session} {bytes out₀ : List ℕ} {m : SessionMemories} {
 reach-same {s} {bytes} {out₀} {m} {left} {out} {used} left′ same reached = subst⁻¹ (λ (l : List ℕ). Reached s bytes out₀ m l out used) same reached
 
 -- a text laid over the start of a buffer
-laid-first : (held text : List ℕ) → laid held 0 text ≡ bufferAfter text held
+pub laid-first : (held text : List ℕ) → laid held 0 text ≡ bufferAfter text held
 laid-first held text = ap (λ (n : ℕ). text ++ drop n held) (zero-add (length text))
 
 -- what is kept of a session that is kept
-kept-twice : (s : Session) → keptSession (keptSession s) ≡ keptSession s
+pub kept-twice : (s : Session) → keptSession (keptSession s) ≡ keptSession s
 kept-twice s = λ i. record { state = twice (s .state) i; words = s .words }
 
 module _ (s : Session) (bytes out₀ : List ℕ) (m m′ : SessionMemories) (left out : List ℕ) (used n : ℕ) (reached : Reached s bytes out₀ m left out used)

@@ -2,3 +2,4 @@
 pub mod Pending
 pub mod Carry
 pub mod Feed
+pub mod Statement
