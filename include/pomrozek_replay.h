@@ -24,8 +24,9 @@
  * Any cutting prints the same lines, whatever the lengths of the pieces and of the outputs.
  *
  * Memory. The caller owns every array. A call reads and writes what it is lent and keeps no pointer once
- * it has returned. The library has no heap, no globals and makes no system calls: all that it knows of a
- * recording is in six arrays, together 4,041 bytes. No bound of the stack is proved.
+ * it has returned. The library has no heap, no globals and makes no system calls; of the C library it needs
+ * memcpy and memset. All that it knows of a recording is in six arrays, together 4,041 bytes. No bound of
+ * the stack is proved.
  *
  * State. A session is one board, access, record, word and carry memory and one stream.
  * pomrozek_replay_start makes it a fresh one, whatever it held. Word and carry memory need no set-up: the
