@@ -19,6 +19,7 @@ use record::RecordMemory;
 use recording_feed::CarryBuffer;
 use recording_feed::feed;
 use recording_feed::finish;
+use recording_fields::STATUS_WORDS;
 use recording_fields::StatusWords;
 
 // A stream between two calls: how many bytes the carry holds, how many status words stand, and whether the
@@ -48,10 +49,11 @@ fn standing_in(stream: &StreamMemory) -> u8
 {
     let words = &stream[..];
     let count = words[1];
-    if count < 255 {
+    let limit = STATUS_WORDS as u32;
+    if count < limit {
         return count as u8;
     }
-    255
+    STATUS_WORDS as u8
 }
 
 // Whether the recording is over.

@@ -1,9 +1,9 @@
 -- What goes to the carry: bytes behind those that it holds leave the bytes that are there as they were; and a record is completed so far that the carry
 -- alone says what comes next.
 use Prim.Native.Nat.{ℕ, _+_, _-_, _*_, _≤_, _<_, min}
-use mathlib.Core.Path.{_≡_, refl, sym, ap, ap₂, _∙_, subst, subst⁻¹}
+use mathlib.Core.Path.{_≡_, refl, sym, ap, ap₂, _∙_}
 use mathlib.Core.Bool.{true, false, _||_}
-use mathlib.Core.List.{List, [], _++_, append-nil, append-assoc}
+use mathlib.Core.List.{List, _++_, append-nil, append-assoc}
 use mathlib.Core.Logic.{⊎-elim}
 use native.Mathlib.Nat.{add-zero, add-assoc}
 use native.Mathlib.Omega.{arith}
@@ -17,7 +17,6 @@ use Rattle.rules.specs.Recording.{lengthGood, found, isWhole, isBad}
 use Rattle.rules.proofs.Tests.{decide, cond-true, cond-false}
 use Rattle.rules.proofs.Recording.{found-bad-length, found-whole, found-behind, tag-behind, length-behind}
 use Rattle.recording_texts.specs.Texts.{laid}
-use Rattle.recording_stream.specs.Stream.{carrySize}
 use Rattle.recording_feed.specs.declared.cursor.Sight.{Sight}
 use Rattle.recording_feed.specs.Pending.{pending, sightIn, sightOf}
 use Rattle.recording_feed.specs.Carry.{Moved, Settled, Comes}

@@ -1,8 +1,8 @@
 -- How far a call has come: the lines that are printed stand at the start of the output, and what is left of the call is a turn of its own.
 use Prim.Native.Nat.{ℕ, _+_, _-_, _≤_, _<_}
 use mathlib.Core.Path.{_≡_, refl, sym, ap, ap₂, _∙_, subst, subst⁻¹}
-use mathlib.Core.Bool.{Bool, true, false}
-use mathlib.Core.List.{List, [], _++_, append-assoc}
+use mathlib.Core.Bool.{true, false}
+use mathlib.Core.List.{List, _++_, append-assoc}
 use native.Mathlib.Nat.{sub-zero, zero-add}
 use native.Mathlib.Omega.{arith}
 use lib.ListN.{length, take, drop, length-append, length-drop}
@@ -15,7 +15,7 @@ use Rattle.rules.specs.Recording.{found, isWhole, Field, fieldIn, fieldLength, 
 use mathlib.Core.Logic.{⊎-elim}
 use Rattle.rules.proofs.Tests.{decide, cond-true}
 use Rattle.record.proofs.Kept.{twice}
-use Rattle.recording_texts.specs.Texts.{lineSize, laid, hasRoom, printed, Printed}
+use Rattle.recording_texts.specs.Texts.{lineSize, laid, hasRoom, printed}
 use Rattle.recording_stream.specs.Turn.{Turn, behindLine, turn, turnFrom}
 use Rattle.recording_stream.proofs.Turn.{turn-carries}
 use Rattle.recording_step.specs.SessionMemory.{SessionMemories, sessionMemories, sessionIn, keptSession}
@@ -24,9 +24,8 @@ use Rattle.recording_step.proofs.Fields.{session-kept}
 use Rattle.recording_feed.specs.declared.cursor.Cursor.{Cursor}
 use Rattle.recording_feed.specs.declared.Fed.{Fed}
 use Rattle.recording_feed.specs.declared.Place.{Place}
-use Rattle.recording_feed.specs.Pending.{pending, partBy}
-use Rattle.recording_feed.specs.Carry.{Moved}
-use Rattle.recording_feed.specs.Feed.{Passed, Told, Stopped, FeedCall}
+use Rattle.recording_feed.specs.Pending.{pending}
+use Rattle.recording_feed.specs.Feed.{Passed, Stopped, FeedCall}
 use Rattle.recording_feed.proofs.Buffers.{part-is, laid-part}
 use Rattle.recording_feed.proofs.Turns.{keptTurn, turn-kept}
 use Rattle.recording_feed.proofs.Sights.{Seen}

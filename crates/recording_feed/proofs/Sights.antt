@@ -15,7 +15,7 @@ use types.Run.{OneOf, miss}
 use Rattle.rules.specs.declared.Found.{Found}
 use Rattle.rules.specs.declared.Found.the-variants.{Whole, Bad, Partial, Nothing}
 use Rattle.rules.specs.Bytes.{byteAt, u16At}
-use Rattle.rules.specs.Recording.{found, isWhole, isBad, Field, fieldOf, fieldIn, fieldLength}
+use Rattle.rules.specs.Recording.{found, isWhole, isBad, fieldOf, fieldIn, fieldLength}
 use Rattle.rules.proofs.Tests.{decide, clash, or-left, cond-true, cond-false}
 use Rattle.rules.proofs.Recording.{Finding, nothing, badTag, badLength, tagAlone, headAlone, whole, finding, whole-field, found-behind, field-same, rest-same}
 use Rattle.recording_feed.specs.declared.cursor.Cursor.{Cursor}

@@ -24,9 +24,8 @@ use Rattle.recording_step.specs.SessionMemory.{SessionMemories, sessionIn, kept
 use Rattle.recording_step.proofs.Fields.{session-kept}
 use Rattle.recording_feed.specs.declared.Fed.{Fed}
 use Rattle.recording_feed.specs.declared.Ended.{Ended}
-use Rattle.recording_feed.specs.declared.Place.{Place}
 use Rattle.recording_feed.specs.Pending.{pending}
-use Rattle.recording_feed.specs.Carry.{Moved, Kept}
+use Rattle.recording_feed.specs.Carry.{Kept}
 use Rattle.recording_feed.specs.Feed.{passedBytes, Passed, Told, Stopped, FeedCall, EndCall}
 use Rattle.recording_feed.proofs.Sights.{part-within}
 use Rattle.recording_feed.proofs.Moves.{used-up}

@@ -4,12 +4,9 @@ use mathlib.Core.Path.{_≡_, refl, sym, ap, ap₂, _∙_}
 use mathlib.Core.Bool.{Bool, true, false}
 use mathlib.Core.List.{List, [], _∷_, _++_, append-assoc, append-nil}
 use native.Mathlib.Nat.{zero-add}
-use native.Mathlib.Omega.{arith}
 use lib.ListN.{length, take, drop}
 use lib.Seq.{take-append-seam}
-use borrow.Author.Tests.{ltb-true, ltb-false}
 use lib.Dec.{ltb}
-use Rattle.rules.specs.Answer.{bufferAfter}
 use Rattle.rules.specs.Table.{firstOf}
 use Rattle.rules.specs.Recording.{found, isWhole, isBad, Field, Session, carryOut, linesOf, lastLine, split, transcript}
 use Rattle.rules.proofs.Tests.{clash, or-false-left}

@@ -1,14 +1,14 @@
 -- What the memories do not keep of a session plays no part in a turn.
 use Prim.Native.Nat.{ℕ, zero, suc, _-_}
-use mathlib.Core.Path.{_≡_, refl, sym, ap, ap₂, _∙_}
+use mathlib.Core.Path.{_≡_, sym, ap, _∙_}
 use mathlib.Core.Bool.{Bool, false}
-use mathlib.Core.List.{List, _++_}
+use mathlib.Core.List.{List}
 use lib.ListN.{length, drop}
 use Rattle.rules.specs.Recording.{fieldIn, fieldLength, Session, carryOut}
 use Rattle.recording_stream.specs.Turn.{Turn, waiting, noRoom, broken, behindLine, turnIn, turn}
 use Rattle.recording_stream.proofs.Turn.{Goes, waits, stops, breaks, carries, goes, in-waits, in-stops, in-breaks, in-carries}
 use Rattle.recording_step.specs.SessionMemory.{keptSession}
-use Rattle.recording_step.proofs.Kept.{Alike, carry-alike}
+use Rattle.recording_step.proofs.Kept.{carry-alike}
 
 -- a turn with what is kept of its session
 abbrev pub keptTurn : Turn → Turn

@@ -4,7 +4,7 @@ use mathlib.Core.Path.{_≡_, refl, sym, ap, ap₂, _∙_, subst, subst⁻¹}
 use mathlib.Core.Bool.{Bool, _&&_, and-true}
 use mathlib.Core.List.{List, []}
 use native.Mathlib.Omega.{arith}
-use lib.ListN.{length, take, drop, replicate, length-take}
+use lib.ListN.{length, take, drop, length-take}
 use lib.Seq.{take-append-seam}
 use lib.Dec.{leb}
 use borrow.Author.Tests.{le-leb}
@@ -23,7 +23,7 @@ use Rattle.rules.proofs.Tests.{cond-true}
 use Rattle.board.specs.Memory.{boardIn}
 use Rattle.access.specs.Memory.{listedIn, setupIn}
 use Rattle.access.proofs.Kept.{listed-some}
-use Rattle.record.specs.Memory.{Memories, memories, recordsIn, stateIn, stateOf, kept}
+use Rattle.record.specs.Memory.{Memories, memories, stateIn, stateOf, kept}
 use Rattle.record.proofs.Kept.{held-kept}
 use Rattle.call_offer.specs.Calls.{BoardCall, ListCall, BlockCall}
 use Rattle.call_message.specs.Calls.{MessageCall}

@@ -10,12 +10,12 @@ use borrow.Author.Tests.{le-leb, lt-leb}
 use Rattle.rules.specs.Table.{firstOf}
 use Rattle.rules.specs.Answer.{bufferAfter}
 use Rattle.rules.specs.State.{State}
-use Rattle.rules.specs.Call.{Call, next}
-use Rattle.rules.specs.Recording.{listTag, statusTag, messageTag, blockTag, boardTag, Field, fieldOf, Session, wordsIn, listCall, messageCall, blockCall, boardCall, lineOf, Done, called, standing, carryOut}
+use Rattle.rules.specs.Call.{Call}
+use Rattle.rules.specs.Recording.{listTag, statusTag, messageTag, blockTag, boardTag, Field, fieldOf, Session, wordsIn, listCall, messageCall, blockCall, boardCall, Done, called, standing, carryOut}
 use Rattle.rules.proofs.Tests.{cond-true, cond-false}
-use Rattle.record.specs.Memory.{memories, stateOf, kept}
+use Rattle.record.specs.Memory.{memories, kept}
 use Rattle.record.proofs.Kept.{held-kept}
-use Rattle.recording_texts.specs.Texts.{lineSize, hasRoom, printed, Printed}
+use Rattle.recording_texts.specs.Texts.{lineSize, printed, Printed}
 use Rattle.recording_texts.proofs.Printing.{laid-none, nothing-printed}
 use Rattle.recording_step.specs.SessionMemory.{SessionMemories, sessionMemories, sessionIn, keptSession}
 use Rattle.recording_step.specs.Fields.{CallPlayed, FieldPlayed}

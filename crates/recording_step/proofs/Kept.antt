@@ -2,14 +2,12 @@
 use Prim.Native.Nat.{ℕ}
 use mathlib.Core.Path.{_≡_, refl, sym, ap, ap₂, _∙_}
 use mathlib.Core.Bool.{Bool, true, false, cond}
-use mathlib.Core.List.{List, [], _∷_}
-use mathlib.Core.Logic.{⊎-elim}
+use mathlib.Core.List.{List}
 use lib.Dec.{eqb}
-use Rattle.rules.specs.Table.{Line, _gives_, firstOf}
+use Rattle.rules.specs.Table.{firstOf}
 use Rattle.rules.specs.State.{State}
 use Rattle.rules.specs.Call.{Call, next}
 use Rattle.rules.specs.Recording.{Field, Session, wordsIn, listTag, statusTag, messageTag, blockTag, boardTag, listCall, messageCall, blockCall, boardCall, lineOf, Done, called, standing, carryOut}
-use Rattle.rules.proofs.Tests.{decide, cond-true, cond-false}
 use Rattle.record.specs.Memory.{kept}
 use Rattle.record.proofs.Kept.{next-kept, line-kept}
 use Rattle.recording_step.specs.SessionMemory.{keptSession}

@@ -9,11 +9,11 @@ use Rattle.rules.specs.declared.Found.{Found}
 use Rattle.rules.specs.declared.Found.the-variants.{Whole, Bad, Partial, Nothing}
 use Rattle.rules.specs.Recording.{found, isWhole, isBad, split, Session, sessionAfter, linesOf, badLine, lastLine, transcript}
 use Rattle.rules.proofs.Tests.{clash, or-right, cond-true, cond-false}
-use Rattle.rules.proofs.Recording.{found-nothing, found-behind, transcript-none, transcript-append, rest-none, partial-short}
+use Rattle.rules.proofs.Recording.{found-behind, transcript-none, transcript-append, rest-none, partial-short}
 use Rattle.recording_stream.specs.Stream.{carrySize, Stream, started, pieceLeaves, piecePrints, afterPiece, pieceLines, endLine, afterPieces, printedOver, joinedPieces}
 
 -- a stream that is over prints nothing more
-over-prints : (st : Stream) (pieces : List (List ℕ)) → st .over ≡ true → printedOver st pieces ≡ []
+pub over-prints : (st : Stream) (pieces : List (List ℕ)) → st .over ≡ true → printedOver st pieces ≡ []
 unfolding printedOver endLine pieceLines afterPiece
 over-prints st [] is = cond-true _ _ is
 over-prints st (piece ∷ pieces) is =

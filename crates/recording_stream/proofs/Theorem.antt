@@ -1,15 +1,19 @@
 -- The claims of specs/Statement.antt hold.
 use mathlib.Core.Path.{_≡_, refl, sym, ap, _∙_}
+use mathlib.Core.Bool.{Bool, true, false, cond}
 use mathlib.Core.List.{List, [], _++_, append-assoc, append-nil}
 use native.Mathlib.Omega.{arith}
 use Prim.Native.Nat.{ℕ}
-use Rattle.rules.specs.Recording.{found, isWhole, isBad, transcript}
+use Rattle.rules.specs.Recording.{found, isWhole, isBad, lastLine, transcript}
+use borrow.Author.Tests.{le-ltb}
+use Rattle.rules.specs.Table.{firstOf}
+use Rattle.recording_texts.specs.Texts.{lineSize}
 use Rattle.rules.proofs.Tests.{or-false-left}
 use Rattle.rules.proofs.Recording.{found-nothing, transcript-none}
-use Rattle.recording_stream.specs.Stream.{started, joinedPieces}
-use Rattle.recording_stream.specs.Turn.{turn}
-use Rattle.recording_stream.specs.Statement.{AnyCutting, CarryShort, Feeds, again, next, over, end, CallsPrint}
-use Rattle.recording_stream.proofs.Stream.{pieces-print, pieces-short}
+use Rattle.recording_stream.specs.Stream.{started, afterEnd, endLine, joinedPieces}
+use Rattle.recording_stream.specs.Turn.{waiting, turn, turnFrom, endFrom}
+use Rattle.recording_stream.specs.Statement.{AnyCutting, CarryShort, NothingAfterEnd, OverStays, EndPrints, Feeds, again, next, over, end, CallsPrint}
+use Rattle.recording_stream.proofs.Stream.{over-prints, pieces-print, pieces-short}
 use Rattle.recording_stream.proofs.Turn.{turn-prints, turn-ends}
 
 pub any-cutting : AnyCutting
@@ -19,6 +23,22 @@ any-cutting s pieces = pieces-print (started s) pieces refl (ap isWhole (found-n
 pub carry-short : CarryShort
 unfolding started
 carry-short s pieces = pieces-short (started s) pieces (omega arith)
+
+pub nothing-after-end : NothingAfterEnd
+unfolding afterEnd
+nothing-after-end st pieces = over-prints (afterEnd st) pieces refl
+
+pub over-stays : OverStays
+unfolding turnFrom waiting
+over-stays room s bytes = (refl, refl)
+
+pub end-prints : EndPrints
+unfolding endFrom endLine firstOf
+end-prints st room fits = at-end (st .over)
+  where
+    at-end : (over : Bool) → endFrom over room (st .carry) .printed ≡ cond over [] (lastLine (found (st .carry)))
+    at-end true = refl
+    at-end false = rw (le-ltb room lineSize fits)
 
 pub calls-print : CallsPrint
 unfolding joinedPieces

@@ -3,7 +3,7 @@
 use Prim.Native.Nat.{ℕ, zero, suc, _-_, _≤_, _<_}
 use mathlib.Core.Path.{_≡_, refl, sym, ap, subst⁻¹, _∙_}
 use mathlib.Core.Bool.{Bool, true, false, not, _||_}
-use mathlib.Core.List.{List, [], _++_, append-assoc}
+use mathlib.Core.List.{List, _++_, append-assoc}
 use mathlib.Core.Logic.{⊎-elim}
 use native.Mathlib.Omega.{arith}
 use lib.ListN.{length, drop, length-drop}
@@ -12,8 +12,8 @@ use borrow.Author.Tests.{lt-ltb, le-ltb, ltb-true, ltb-false}
 use Rattle.rules.specs.declared.Found.{Found}
 use Rattle.rules.specs.declared.Found.the-variants.{Whole, Bad, Partial, Nothing}
 use Rattle.rules.specs.Table.{firstOf}
-use Rattle.rules.specs.Recording.{found, isWhole, isBad, fieldIn, fieldLength, Session, carryOut, badLine, transcript}
-use Rattle.rules.proofs.Tests.{decide, clash, or-left, or-right, or-false-left, or-cases}
+use Rattle.rules.specs.Recording.{found, isWhole, isBad, fieldIn, fieldLength, Session, carryOut, transcript}
+use Rattle.rules.proofs.Tests.{decide, clash, or-left, or-right, or-cases}
 use Rattle.rules.proofs.Recording.{found-nothing, rest-shorter, transcript-behind}
 use Rattle.recording_texts.specs.Texts.{lineSize}
 use Rattle.recording_stream.specs.Turn.{Turn, waiting, noRoom, broken, behindLine, turnIn, turn}

@@ -1,12 +1,13 @@
--- The claims of document 02's L12, over the rules: `AnyCutting`, `CarryShort` and `CallsPrint`. Their theorems are in proofs/Theorem.antt.
-use Prim.Native.Nat.{ℕ, _<_}
+-- The claims of document 02's L12, over the rules: `AnyCutting`, `CarryShort`, `NothingAfterEnd`, `OverStays`, `EndPrints` and `CallsPrint`. Their theorems are in proofs/Theorem.antt.
+use Prim.Native.Nat.{ℕ, _≤_, _<_}
 use mathlib.Core.Path.{_≡_}
 use mathlib.Core.Bool.{true, false}
 use mathlib.Core.List.{List, [], _∷_, _++_}
 use lib.ListN.{length}
+use Rattle.recording_texts.specs.Texts.{lineSize}
 use Rattle.rules.specs.Recording.{found, Session, lastLine, transcript}
-use Rattle.recording_stream.specs.Stream.{carrySize, started, afterPieces, printedOver, joinedPieces}
-use Rattle.recording_stream.specs.Turn.{turn}
+use Rattle.recording_stream.specs.Stream.{carrySize, Stream, started, afterEnd, endLine, afterPieces, printedOver, joinedPieces}
+use Rattle.recording_stream.specs.Turn.{turn, turnFrom, endFrom}
 
 -- "any cutting prints the same lines": over any pieces and the end what is printed is the transcript of the pieces joined
 abbrev pub AnyCutting : Type 0
@@ -16,6 +17,18 @@ AnyCutting = (s : Session) (pieces : List (List ℕ)) → printedOver (started s
 abbrev pub CarryShort : Type 0
 CarryShort =
     (s : Session) (pieces : List (List ℕ)) → length (afterPieces (started s) pieces .carry) < carrySize
+
+-- "announcing the end a second time, or feeding after it, prints nothing"; and so after a bad record
+abbrev pub NothingAfterEnd : Type 0
+NothingAfterEnd = (st : Stream) (pieces : List (List ℕ)) → printedOver (afterEnd st) pieces ≡ []
+
+-- a call over a recording that is over prints nothing, and it stays over; the announced end, with room for a line, prints what the end of a stream prints
+abbrev pub OverStays : Type 0
+OverStays =
+    (room : ℕ) (s : Session) (bytes : List ℕ) → (turnFrom true room s bytes .printed ≡ []) × (turnFrom true room s bytes .over ≡ true)
+
+abbrev pub EndPrints : Type 0
+EndPrints = (st : Stream) (room : ℕ) → lineSize ≤ room → endFrom (st .over) room (st .carry) .printed ≡ endLine st
 
 -- calls of the feeding function, each with any output: the bytes that are there, the pieces still to come, and all that is printed from here on. While a
 -- record waits for room, it is called again; then comes the next piece, behind what is left over; then the end is announced. After a bad record nothing
