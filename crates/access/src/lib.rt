@@ -1,6 +1,8 @@
 // The access memory, asked whether a list was accepted, alone or in a block, and for the role of a host at a
 // row; and a list put in force (module store). Its layout is specs/Memory.antt; any content of it is a state.
 // Hosts are 16-bit numbers throughout.
+#![tactic(auto)]
+
 mod store;
 
 ghost use Rattle.std.specs.Prelude.{◌≡◌, cond, get_or};

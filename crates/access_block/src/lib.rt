@@ -1,6 +1,8 @@
 // Why a security board configuration is refused: document 02's A1, B1 and B2, the list's A3 to A8, the
 // hierarchy's B3 to B8, then B9 and B10. The rules are rules/specs/Block.antt. Each part is judged as its own
 // part of the block.
+#![tactic(auto)]
+
 ghost use Rattle.std.specs.Prelude.{◌≡◌};
 ghost use Rattle.rules.specs.declared.Verdict.TheVariants.{Accepted};
 ghost use Rattle.rules.specs.Table.{first_of};

@@ -1,5 +1,7 @@
 // The host hierarchy of a security board configuration: why it is refused, document 02's B3 to B8, in its
 // order. The rules are rules/specs/Hierarchy.antt. Loops are found by module loops.
+#![tactic(auto)]
+
 mod loops;
 
 ghost use Rattle.std.specs.Prelude.{◌<◌, ◌≡◌, []};

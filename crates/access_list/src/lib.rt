@@ -1,5 +1,7 @@
 // The access list: why one is refused, document 01's A1 to A8, in its order. The rules are
 // rules/specs/AccessList.antt. An entry is judged as its own nine-byte part of the list.
+#![tactic(auto)]
+
 mod entry;
 
 ghost use Rattle.std.specs.Prelude.{◌≡◌};

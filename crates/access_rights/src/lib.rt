@@ -1,6 +1,8 @@
 // N7 of document 01: whether a sender has the right that its message asks for, by its role and the record
 // of the processor that it names; and who is permitted, which handover asks of its new host too (N8). Each
 // function gives what the definition of that name gives.
+#![tactic(auto)]
+
 ghost use Rattle.std.specs.Prelude.{◌≡◌};
 ghost use Rattle.rules.specs.Role.{permits, is_master, permitted};
 ghost use Rattle.rules.specs.Outcome.{may_request, is_controller};

@@ -1,6 +1,8 @@
 // The board in force, read out of the lent board memory: its hosts, its processors with their rows,
 // classes and homes. Each function gives what the definition of the same name in rules/specs/Board.antt
 // gives, for any content of the memory and any number.
+#![tactic(auto)]
+
 mod store;
 
 ghost use Rattle.std.specs.Prelude.{◌<◌, ◌≡◌};

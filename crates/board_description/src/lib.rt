@@ -1,5 +1,7 @@
 // Why a board description is refused: document 02's D1 to D6, in its order, for each item in turn.
 // What an item's faults ask of the items before it is found by walking those again: nothing is kept.
+#![tactic(auto)]
+
 mod earlier;
 mod fault;
 mod item;

@@ -1,5 +1,7 @@
 // The board in force: the one that a description leaves, put into the lent board memory item by
 // item. The description is judged first, so a refused one writes nothing.
+#![tactic(auto)]
+
 mod starting;
 
 ghost use Rattle.std.specs.Prelude.{◌≡◌, false, ◌≤◌, ◌<◌};

@@ -2,6 +2,8 @@
 // is all zeros is a fresh manager's, and any content is a state. A message is tested by the outcome table of
 // document 01, row by row: first the rows that every message passes alike, then those of its type, which
 // also change the record. The answer is written last.
+#![tactic(auto)]
+
 mod dispatch;
 mod screen;
 

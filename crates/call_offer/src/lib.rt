@@ -1,6 +1,8 @@
 // The offers: the board call, the list call and the block call, over memory that the caller lends. The
 // start (crate board_setup) fills the board memory; access memory that is all zeros is a fresh manager's. Any
 // content is a state.
+#![tactic(auto)]
+
 ghost use Rattle.call_offer.specs.Calls.{BlockCall, BoardCall, ListCall};
 
 use access::{AccessMemory, is_listed, put_in_force};

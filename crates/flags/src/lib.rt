@@ -1,5 +1,7 @@
 // Flag words: which bits may be named, by class and by word; a set word and a clear word judged; and the word
 // that they leave. Once for config and control. The rules are rules/specs/Flags.antt and Board.antt.
+#![tactic(auto)]
+
 ghost use Rattle.std.specs.Prelude.{◌≡◌, cond, eqb};
 ghost use Rattle.std.specs.Int.Bits.{bit_or};
 ghost use Rattle.rules.specs.Board.{config_word, mask_of};

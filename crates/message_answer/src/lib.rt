@@ -1,5 +1,7 @@
 // The answer to a message, written to the start of the lent buffer: the last column of document 01's
 // outcome table. What is written is specs/Puts.antt, over the bytes that rules/specs/Answer.antt gives.
+#![tactic(auto)]
+
 mod bytes;
 
 ghost use Rattle.std.specs.Prelude.{◌≡◌, get_or, cond, []};

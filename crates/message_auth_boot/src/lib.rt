@@ -1,5 +1,7 @@
 // Authenticated boot. The function tests the rows of document 01's outcome table from N4 on; the rows
 // above are passed when it is called.
+#![tactic(auto)]
+
 ghost use Rattle.std.specs.Prelude.{List, ℕ};
 ghost use Rattle.rules.specs.declared.Kind.TheVariants.{AuthBoot};
 ghost use Rattle.rules.specs.Message.{query};

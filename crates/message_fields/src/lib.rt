@@ -1,5 +1,7 @@
 // What a message says before its type's own operands: header, types, sizes and the places of the fields, as
 // document 01's tables have them. The rules are rules/specs/Message.antt.
+#![tactic(auto)]
+
 ghost use Rattle.std.specs.Prelude.{◌≡◌};
 ghost use Rattle.rules.specs.Message.{kind_of, kind_in, answer_asked};
 

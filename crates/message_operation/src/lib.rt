@@ -1,6 +1,8 @@
 // What the functions of the message types share: the row of the processor that a message names, and
 // what a message comes to. Each type is in a crate of its own above, and the rows of document 01's
 // outcome table that they test, from N4 on, are in specs/Operation.antt.
+#![tactic(auto)]
+
 ghost use Rattle.std.specs.Prelude.{◌≡◌};
 ghost use Rattle.rules.specs.Board.{row_of};
 ghost use Rattle.rules.specs.Message.{processor_of};

@@ -1,6 +1,8 @@
 // Release: the controller gives a processor back. The function tests the rows of document 01's
 // outcome table from N4 on, in its order; the rows above are passed when it is called. OK changes
 // the record in the lent memory, and a refusal leaves it.
+#![tactic(auto)]
+
 ghost use Rattle.std.specs.Prelude.{List, ℕ};
 ghost use Rattle.rules.specs.declared.Kind.TheVariants.{Release};
 ghost use Rattle.rules.specs.Message.{query};

@@ -1,5 +1,7 @@
 // Wait status. The function tests the rows of document 01's outcome table from N4 on, in its order; the
 // rows above are passed when it is called. No record changes, so it gets none.
+#![tactic(auto)]
+
 ghost use Rattle.std.specs.Prelude.{List, ℕ, ◌+◌, ◌*◌, ◌≡◌, cond};
 ghost use Rattle.rules.specs.declared.Outcome.TheVariants.{N9, Ok};
 ghost use Rattle.rules.specs.declared.Kind.TheVariants.{WaitStatus};

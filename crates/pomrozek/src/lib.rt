@@ -1,5 +1,7 @@
 // The manager for firmware in C: five functions over memory that the caller lends. include/pomrozek.h
 // declares them and says who owns what. Numbers are the papers': 0 for OK or accepted.
+#![tactic(auto)]
+
 ghost use Rattle.std.specs.Prelude.{◌≡◌, ◌≤◌};
 ghost use Rattle.rules.specs.Description.{ours};
 ghost use Rattle.rules.specs.Message.{largest_answer};

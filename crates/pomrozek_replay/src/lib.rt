@@ -1,5 +1,7 @@
 // Recordings in pieces for C: a session over memory that the caller lends, fed piece by piece.
 // include/pomrozek_replay.h declares the functions and says who owns what.
+#![tactic(auto)]
+
 ghost use Rattle.std.specs.Prelude.{[], ◌∷◌, ◌≡◌, ◌≤◌, replicate};
 ghost use Rattle.rules.specs.Description.{ours};
 ghost use Rattle.board.specs.Memory.{board_bytes};

@@ -1,5 +1,7 @@
 // The record memory: the processors' records read and written, and the tallies of a change of controller. Its
 // layout is specs/Memory.antt; any content is a state.
+#![tactic(auto)]
+
 mod store;
 mod tally;
 

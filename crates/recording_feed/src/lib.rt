@@ -1,6 +1,8 @@
 // Recordings in pieces (document 02, L12): a session is fed piece by piece, its lines go to a lent output, and
 // its end is announced. Nothing is read or written here. The rules are specs/Feed.antt, over those of crate
 // recording_stream.
+#![tactic(auto)]
+
 mod carry;
 mod cursor;
 

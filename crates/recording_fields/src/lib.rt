@@ -1,5 +1,7 @@
 // The tagged fields of a recording: which tags there are and the lengths of each, what stands at a place of
 // bytes, and the status words that a field holds. The rules are rules/specs/Recording.antt.
+#![tactic(auto)]
+
 mod field;
 mod tag;
 mod words;

@@ -1,4 +1,6 @@
 // The lines that a session prints: of a message, and of an offer. The rules are in specs/.
+#![tactic(auto)]
+
 mod message;
 mod offer;
 

@@ -1,5 +1,7 @@
 // Session recordings: a whole field carried out by its tag. The rule is `carry_out` of
 // rules/specs/Recording.antt; specs/Fields.antt says it of the lent memories.
+#![tactic(auto)]
+
 mod message;
 mod offer;
 

@@ -1,5 +1,7 @@
 // What a session prints, as text: digits, the names of outcomes and verdicts, the fixed lines, and the room
 // that any line fits in. The rules are in specs/.
+#![tactic(auto)]
+
 mod digit;
 mod names;
 mod verdict;

@@ -1,6 +1,8 @@
 // Replays a recorded session: reads it piece by piece from standard input, feeds each piece, and writes the
 // lines to standard output. What is printed is worked out and proved in crate recording_feed; this program
 // reads, feeds and writes. No contract can say what is read or written.
+#![tactic(auto)]
+
 ghost use Rattle.std.specs.Prelude.{◌≤◌};
 ghost use Rattle.replay.specs.Stand.{Within};
 

@@ -1,5 +1,7 @@
 // The numbers of outcomes, verdicts and roles, for the log, the printed lines and the callers in C. The rules
 // are `outcome_number`, `verdict_number` and `role_number` in rules/specs.
+#![tactic(auto)]
+
 ghost use Rattle.std.specs.Prelude.{◌≡◌};
 ghost use Rattle.rules.specs.Verdict.{verdict_number};
 ghost use Rattle.rules.specs.Role.{role_number};

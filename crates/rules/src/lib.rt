@@ -1,5 +1,6 @@
 // The types that the rules of specs/ speak of. Every crate that carries the rules out uses these,
 // so that a contract can equate what the code gives with what a rule gives. No function is here.
+#![tactic(auto)]
 
 // What a message comes to: document 01's table of outcomes, in its order.
 #[derive(Drop)]

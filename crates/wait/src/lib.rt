@@ -1,5 +1,7 @@
 // A wait as a value: its operands out of a message, whether they are right, when a status word matches, and
 // the first check that ends a run of matching words in a row. The rules are rules/specs/Wait.antt.
+#![tactic(auto)]
+
 ghost use Rattle.std.specs.Prelude.{◌≡◌, cond, suc, ◌<◌};
 ghost use Rattle.rules.specs.Message.{wait_in};
 ghost use Rattle.rules.specs.Wait.{wait_good, word_matches, ending_check};

@@ -1,5 +1,7 @@
 // Bytes in and out: little-endian numbers at any place of lent bytes, tagged fields, and bytes put into a
 // lent buffer. The rules are rules/specs/Bytes.antt, rules/specs/Answer.antt and specs/Tagged.antt.
+#![tactic(auto)]
+
 mod read;
 mod tagged;
 mod write;
