@@ -9,7 +9,7 @@ use rules::Item;
 
 // What the items before an item say of it: whether one of its kind has its number, whether a
 // processor of another class has its cluster, and how many are of its kind.
-#[derive(Drop)]
+#[derive(Clone, Copy)]
 pub(crate) struct Before {
     pub repeated: bool,
     pub mixed: bool,

@@ -15,7 +15,7 @@ use rules::{Outcome, Role};
 use wire::byte_at;
 
 // What a message comes to: the outcome, what a wait reports, and the sender's role in a request.
-#[derive(Drop)]
+#[derive(Clone, Copy)]
 pub struct Decision {
     pub outcome: Outcome,
     pub checks: u32,

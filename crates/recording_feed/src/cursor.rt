@@ -12,7 +12,7 @@ use rules::Found;
 use wire::FIELD_HEAD;
 
 // The place of a record's body, from `start` up to `end`: in the carry, or else in the piece.
-#[derive(Drop)]
+#[derive(Clone, Copy)]
 pub struct Cursor {
     pub carried: bool,
     pub start: usize,
@@ -20,7 +20,7 @@ pub struct Cursor {
 }
 
 // What comes next in the bytes that are there.
-#[derive(Drop)]
+#[derive(Clone, Copy)]
 pub enum Sight {
     // A whole record: its tag, and where its body stands.
     Record(u8, Cursor),
@@ -82,7 +82,7 @@ fn seen(bytes: &[u8], at: usize, carried: bool) -> Sight
 }
 
 // What comes next, and where: how many bytes the carry holds then, and the place in the piece.
-#[derive(Drop)]
+#[derive(Clone, Copy)]
 pub struct Next {
     pub sight: Sight,
     pub held: usize,

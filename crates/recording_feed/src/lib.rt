@@ -30,7 +30,7 @@ use wire::{move_down, put};
 
 // What a call leaves: the bytes of the output that it used, how many bytes the carry holds, how far the piece
 // is used up, how many status words stand, whether the recording is over, and whether a record waits for room.
-#[derive(Drop)]
+#[derive(Clone, Copy)]
 pub struct Fed {
     pub used: usize,
     pub held: usize,
@@ -42,7 +42,7 @@ pub struct Fed {
 
 // What the announced end leaves: the bytes of the output that it used, whether the recording is over, and
 // whether its line waits for room.
-#[derive(Drop)]
+#[derive(Clone, Copy)]
 pub struct Ended {
     pub used: usize,
     pub over: bool,
@@ -112,7 +112,7 @@ fn stop(
 }
 
 // Where a call goes on behind a record: how many bytes the carry holds, and the place in the piece.
-#[derive(Drop)]
+#[derive(Clone, Copy)]
 pub struct Place {
     pub held: usize,
     pub at: usize,

@@ -22,7 +22,7 @@ use recording_fields::{
 use recording_texts::LINE_BYTES;
 
 // What a field leaves: the length of the line it printed, and how many status words stand.
-#[derive(Drop)]
+#[derive(Clone, Copy)]
 pub struct Played {
     pub line: usize,
     pub words: u8,

@@ -12,7 +12,7 @@ use rules::Verdict;
 const TEXT_BYTES: usize = 8;
 
 // A text, and how many bytes it has. The others are 0.
-#[derive(Drop)]
+#[derive(Clone, Copy)]
 pub struct Text {
     pub bytes: [u8; TEXT_BYTES],
     pub count: usize,

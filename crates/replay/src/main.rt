@@ -20,7 +20,7 @@ type Buffer = [u8; BUFFER_BYTES];
 
 // Where a session stands between two turns: how many bytes the carry holds, how many status words stand, the
 // place in the piece and its end, whether a record waits for room, and whether the session goes on.
-#[derive(Drop)]
+#[derive(Clone, Copy)]
 pub struct Stand {
     pub held: usize,
     pub words: u8,

@@ -3,7 +3,7 @@
 #![tactic(auto)]
 
 // What a message comes to: document 01's table of outcomes, in its order.
-#[derive(Drop)]
+#[derive(Clone, Copy)]
 pub enum Outcome {
     R1,
     R2,
@@ -22,7 +22,7 @@ pub enum Outcome {
 
 // What an offer comes to, an access list, a security board configuration or a board description: accepted,
 // or refused by a row of document 01's table or of document 02's.
-#[derive(Drop)]
+#[derive(Clone, Copy)]
 pub enum Verdict {
     Accepted,
     A1,
@@ -53,7 +53,7 @@ pub enum Verdict {
 
 // What a security board configuration comes to: the verdict, and the host that B8 reports, 0 with any
 // other verdict.
-#[derive(Drop)]
+#[derive(Clone, Copy)]
 pub struct BlockReport {
     pub verdict: Verdict,
     pub host: u8,
@@ -61,7 +61,7 @@ pub struct BlockReport {
 
 // One item of a board description, by its tag: 1 a host, 2 a processor, 0 for a field that is neither.
 // The mark of a host says whether it is secure, that of a processor is its class. A host's cluster is 0.
-#[derive(Drop)]
+#[derive(Clone, Copy)]
 pub struct Item {
     pub tag: u8,
     pub number: u8,
@@ -70,7 +70,7 @@ pub struct Item {
 }
 
 // What a message asks for, by its type; `Other` is a type that is not in the table.
-#[derive(Drop)]
+#[derive(Clone, Copy)]
 pub enum Kind {
     Request,
     Release,
@@ -85,7 +85,7 @@ pub enum Kind {
 
 // What is counted of a processor: requests granted while it was free, overrides that took it from another
 // host, handovers to another host, and releases.
-#[derive(Drop)]
+#[derive(Clone, Copy)]
 pub struct Tallies {
     pub grants: u32,
     pub overrides: u32,
@@ -95,7 +95,7 @@ pub struct Tallies {
 
 // A processor's record. A controller of 0 is none, since host 0 never controls. The 64-bit boot
 // vector is kept in halves, as the messages carry it.
-#[derive(Drop)]
+#[derive(Clone, Copy)]
 pub struct Record {
     pub controller: u32,
     pub low: u32,
@@ -107,7 +107,7 @@ pub struct Record {
 
 // The operands of a wait: how many checks at most, how many matching words in a row end it, the
 // microseconds of a check and before the first one, and four masks.
-#[derive(Drop)]
+#[derive(Clone, Copy)]
 pub struct Wait {
     pub waits: u8,
     pub matches: u8,
@@ -121,7 +121,7 @@ pub struct Wait {
 
 // What a host is to a processor: its recovery master, its secondary 0, 1 or 2, a host on a processor that
 // is open since it has no entry, or none of these.
-#[derive(Drop)]
+#[derive(Clone, Copy)]
 pub enum Role {
     None,
     Master,
@@ -133,7 +133,7 @@ pub enum Role {
 
 // What a message call reports: the outcome, the checks a wait made and the microseconds it took, how many
 // bytes were written to the answer buffer, and the sender's role in a request.
-#[derive(Drop)]
+#[derive(Clone, Copy)]
 pub struct Report {
     pub outcome: Outcome,
     pub checks: u32,
@@ -143,7 +143,7 @@ pub struct Report {
 }
 
 // What the bytes of a recording begin with.
-#[derive(Drop)]
+#[derive(Clone, Copy)]
 pub enum Found {
     // A whole field: its tag and its length; the body starts three bytes on.
     Whole(u8, u16),

@@ -9,7 +9,7 @@ use crate::read::paired;
 pub const FIELD_HEAD: usize = 3;
 
 // What stands at a place of bytes.
-#[derive(Drop)]
+#[derive(Clone, Copy)]
 pub enum Tagged {
     // The end of the bytes.
     End,
