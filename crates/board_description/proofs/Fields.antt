@@ -11,7 +11,6 @@ use lib.Seq.{take_all, get_or-drop, drop-drop}
 use lib.Dec.{eqb, ltb, leb}
 use borrow.Author.Tests.{ltb-false, le-leb, lt-leb, eq-eqb, ne_eqb, eqb-true, leb-true}
 use denote.Enum.Declared.{tag_of}
-use types.Run.{OneOf, miss}
 use Rattle.rules.specs.declared.Item.{Item}
 use Rattle.rules.specs.Bytes.{byte_at, u16_at}
 use Rattle.rules.specs.Description.{processor_tag, body_size, field_good, no_item, item_in, field_size}
@@ -79,19 +78,19 @@ module _ (bytes : List ℕ) (at : ℕ) where
 
 -- ---- what the code's tests say
 
-not_field : (told : Tagged) → OneOf (0 ∷ 1 ∷ 2 ∷ []) (tag_of the_type told) → good_in told ≡ false
-not_field End key = refl
-not_field (Tag tag) key = refl
-not_field (Head tag n) key = refl
-not_field (Field tag n) key = absurd (miss (0 ∷ 1 ∷ 2 ∷ []) 3 tt key)
+not_field : (told : Tagged) → ((tag n : ℕ) → told ≡ Field tag n → ⊥) → good_in told ≡ false
+not_field End other = refl
+not_field (Tag tag) other = refl
+not_field (Head tag n) other = refl
+not_field (Field tag n) other = absurd (other tag n refl)
 
 module _ (bytes : List ℕ) (at : ℕ) {told : Tagged} (read : told ≡ tagged_at bytes at) where
   no_item_lem : good_in told ≡ false → no_item ≡ item_in (drop at bytes)
   unfolding item_in
   no_item_lem bad = sym (cond-false _ _ (field_judged bytes at ∙ ap good_in (sym read) ∙ bad))
 
-  pub none_whole : OneOf (0 ∷ 1 ∷ 2 ∷ []) (tag_of the_type told) → no_item ≡ item_in (drop at bytes)
-  none_whole key = no_item_lem (not_field told key)
+  pub none_whole : ((tag n : ℕ) → told ≡ Field tag n → ⊥) → no_item ≡ item_in (drop at bytes)
+  none_whole other = no_item_lem (not_field told other)
 
   module _ {tag n : ℕ} (is : told ≡ Field tag n) where
     pub field_ends : at + 3 + n ≤ length bytes

@@ -1,0 +1,14 @@
+use Prim.Native.Nat.{◌*◌, ◌≤◌, ◌-◌}
+use mathlib.Core.Path.{◌≡◌, refl, sym, ◌∙◌}
+use native.Mathlib.Omega.{arith}
+use borrow.Author.Rules.{rules}
+use Rattle.access_list.specs.Entries.{number_before}
+use Rattle.access_list.proofs.Substructure.{number_here, number_passed, place_small}
+use Rattle.access_list.proofs.entry.named_before.Given as goal
+
+abbrev pub invariant-loop-i : goal.invariant-loop-i
+invariant-loop-i l =
+    (l.i ≤ 255) × (number_before l.width l.bytes l.e l.number ≡ number_before l.width l.bytes l.i l.number)
+
+abbrev pub decreases-loop-i : goal.decreases-loop-i
+decreases-loop-i l = l.i
