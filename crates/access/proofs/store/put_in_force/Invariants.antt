@@ -1,0 +1,16 @@
+use Prim.Native.Nat.{◌≤◌, ◌-◌}
+use mathlib.Core.Path.{◌≡◌, ◌∙◌}
+use mathlib.Core.List.{◌∷◌}
+use native.Mathlib.Omega.{arith}
+use borrow.Author.Rules.{rules}
+use Rattle.rules.specs.Substructure.{entry_count}
+use Rattle.board.specs.Memory.{board_in}
+use Rattle.access.specs.InForce.{entry_words}
+use Rattle.access.proofs.InForce.{entries_before, none_stored, put_next, entries-all}
+use Rattle.access.proofs.store.put_in_force.Given as goal
+
+abbrev pub invariant-loop-e : goal.invariant-loop-e
+invariant-loop-e l = (l.e ≤ entry_count) × (l.access ≡ 1 ∷ entry_words (entries_before (board_in l.board) l.list l.e))
+
+abbrev pub decreases-loop-e : goal.decreases-loop-e
+decreases-loop-e l = entry_count - l.e
