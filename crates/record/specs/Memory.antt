@@ -43,8 +43,8 @@ own_words o =
     ∷ []
 
 -- what the processor at a row has of its own
-abbrev pub field_own : List ℕ → ℕ → Own
-field_own m row = own_by (λ (j : ℕ). get_or m (record_place row + j) 0)
+abbrev pub own_at : List ℕ → ℕ → Own
+own_at m row = own_by (λ (j : ℕ). get_or m (record_place row + j) 0)
 
 -- the place of the control word that is kept at a home, and the word
 abbrev pub control_place : ℕ → ℕ
@@ -54,7 +54,7 @@ abbrev pub control_at : List ℕ → ℕ → ℕ
 control_at m home = get_or m (control_place home) 0
 
 unfoldable pub records_in : List ℕ → Records
-records_in m = record { own = table_of (field_own m) 0 rows; controls = table_of (control_at m) 0 rows }
+records_in m = record { own = table_of (own_at m) 0 rows; controls = table_of (control_at m) 0 rows }
 
 -- the record of the processor at a row of a board, with the control word of its home
 abbrev pub record_at : Board → List ℕ → ℕ → Record
