@@ -1,0 +1,42 @@
+-- `access_hierarchy::fill` meets its contract. The loop's invariant: the table has the supervisors of the entries from e on.
+use Prim.Native.Nat.{ℕ, ◌≤◌, ◌-◌}
+use mathlib.Core.Path.{◌≡◌, ap, ◌∙◌}
+use mathlib.Core.List.{List}
+use lib.ListN.{set}
+use native.Mathlib.Omega.{arith}
+use borrow.Author.Rules.{rules}
+use Rattle.rules.specs.Table.{table_of}
+use Rattle.rules.specs.Substructure.{entry_count, parts_of, parts_from}
+use Rattle.rules.specs.Hierarchy.{pair_size, supervisor_of}
+use Rattle.access_hierarchy.specs.Supervisors.{host_count, supervisors_in}
+use Rattle.access_hierarchy.proofs.Tables.{none_filled, fill_unused, fill_used}
+use Rattle.access_hierarchy.proofs.loops.fill.Goals as goal
+
+pub loop-e-init : goal.loop-e-init
+unfolding parts_of
+loop-e-init c =
+    (omega arith, c.requires ∙ none_filled)
+
+pub loop-e-preserved-then-host-ne0 : goal.loop-e-preserved-then-host-ne0
+loop-e-preserved-then-host-ne0 c =
+    let given = c.args in
+    let at = c.loop-e in
+    let e = at.e - 1 in (
+      omega arith,
+      ap (λ (table : List ℕ). set table c.byte_at-host.result c.byte_at.result) at.invariant.1
+          ∙ fill_used given.bytes.now e at.e (omega arith) (omega arith) c.byte_at-host.ensures c.if-host-ne0.true c.byte_at.ensures,
+    )
+
+pub loop-e-preserved : goal.loop-e-preserved
+loop-e-preserved c =
+    let given = c.args in
+    let at = c.loop-e in
+    let e = at.e - 1 in (
+      omega arith,
+      at.invariant.1 ∙ fill_unused given.bytes.now e at.e (omega arith) (omega arith) c.byte_at-host.ensures c.if-host-ne0.false,
+    )
+
+pub returns : goal.returns
+unfolding supervisors_in
+returns c =
+    let none : c.loop-e.e ≡ 0 = omega arith in c.loop-e.invariant.1 ∙ rw none

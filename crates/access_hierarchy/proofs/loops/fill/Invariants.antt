@@ -1,0 +1,18 @@
+use Prim.Native.Nat.{ℕ, ◌≤◌, ◌-◌}
+use mathlib.Core.Path.{◌≡◌, ap, ◌∙◌}
+use mathlib.Core.List.{List}
+use lib.ListN.{set}
+use native.Mathlib.Omega.{arith}
+use borrow.Author.Rules.{rules}
+use Rattle.rules.specs.Table.{table_of}
+use Rattle.rules.specs.Substructure.{entry_count, parts_of, parts_from}
+use Rattle.rules.specs.Hierarchy.{pair_size, supervisor_of}
+use Rattle.access_hierarchy.specs.Supervisors.{host_count, supervisors_in}
+use Rattle.access_hierarchy.proofs.Tables.{none_filled, fill_unused, fill_used}
+use Rattle.access_hierarchy.proofs.loops.fill.Given as goal
+
+abbrev pub invariant-loop-e : goal.invariant-loop-e
+invariant-loop-e l = (l.e ≤ entry_count) × (l.above ≡ table_of (supervisor_of (parts_from pair_size l.bytes l.e (entry_count - l.e))) 0 host_count)
+
+abbrev pub decreases-loop-e : goal.decreases-loop-e
+decreases-loop-e l = l.e
