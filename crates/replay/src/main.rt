@@ -8,10 +8,10 @@ ghost use Rattle.replay.specs.Stand.{Within};
 
 use access::{ACCESS_WORDS, AccessMemory};
 use board::{BOARD_BYTES, BoardMemory};
-use io::write_all;
 use record::{RECORD_WORDS, RecordMemory};
 use recording_feed::{CARRY_BYTES, CarryBuffer, feed, finish};
 use recording_fields::{STATUS_WORDS, StatusWords};
+use std::io::{Read, Write};
 
 // How many bytes are read, and how many may be printed, at once.
 const BUFFER_BYTES: usize = 65536;
@@ -31,7 +31,8 @@ pub struct Stand {
 }
 
 // Feeds what is left of the piece, and writes the lines that it prints. A write that fails ends the session.
-fn feed_piece(
+fn feed_piece<W: Write>(
+    to: &mut W,
     board: &mut BoardMemory,
     access: &mut AccessMemory,
     records: &mut RecordMemory,
@@ -61,7 +62,7 @@ fn feed_piece(
     );
     let used = fed.used;
     let lines = &output[..];
-    let written = write_all(1, &lines[..used]);
+    let written = to.write_all(&lines[..used]).is_ok();
     Stand {
         held: fed.held,
         words: fed.words,
@@ -72,16 +73,20 @@ fn feed_piece(
     }
 }
 
-// Announces the end of the session, and writes what that prints.
-fn announce(carry: &CarryBuffer, held: usize, output: &mut Buffer) {
+// Announces the end of the session, and writes what that prints. Nothing follows, so a write that fails ends
+// nothing more.
+fn announce<W: Write>(to: &mut W, carry: &CarryBuffer, held: usize, output: &mut Buffer) {
     let ended = finish(carry, held, false, output);
     let used = ended.used;
     let lines = &output[..];
-    write_all(1, &lines[..used]);
+    let _ = to.write_all(&lines[..used]);
 }
 
-// One turn: a new piece is read where the last one is used up. At the end of the input the end is announced.
-fn turn(
+// One turn: a new piece is read where the last one is used up. At the end of the input the end is announced, and
+// a read that fails counts as that end.
+fn turn<R: Read, W: Write>(
+    from: &mut R,
+    to: &mut W,
     board: &mut BoardMemory,
     access: &mut AccessMemory,
     records: &mut RecordMemory,
@@ -95,11 +100,14 @@ fn turn(
     ensures { Within result }
 {
     if stand.full {
-        return feed_piece(board, access, records, words, carry, stand, input, output);
+        return feed_piece(
+            to, board, access, records, words, carry, stand, input, output,
+        );
     }
-    let got = libc::read(0, input);
-    let all = &input[..];
-    let end = io::count(got, all);
+    let end = match from.read(input) {
+        Ok(count) => count,
+        Err(_) => 0,
+    };
     let next = Stand {
         held: stand.held,
         words: stand.words,
@@ -109,21 +117,25 @@ fn turn(
         goes: 0 < end,
     };
     if end == 0 {
-        announce(carry, stand.held, output);
+        announce(to, carry, stand.held, output);
         return next;
     }
-    feed_piece(board, access, records, words, carry, next, input, output)
+    feed_piece(
+        to, board, access, records, words, carry, next, input, output,
+    )
 }
 
 // Document 01's board stands until a board description is taken.
-fn main() {
+fn main(rt: HostRuntime) {
+    let mut from = rt.stdin();
+    let mut to = rt.stdout();
     let mut board = [0u8; BOARD_BYTES];
     let mut access = [0u16; ACCESS_WORDS];
     let mut records = [0u32; RECORD_WORDS];
     let mut words = [0u32; STATUS_WORDS];
     let mut carry = [0u8; CARRY_BYTES];
-    let mut input = io::large_buffer();
-    let mut output = io::large_buffer();
+    let mut input = [0u8; BUFFER_BYTES];
+    let mut output = [0u8; BUFFER_BYTES];
     board_setup::start(&mut board);
     let mut stand = Stand {
         held: 0,
@@ -133,12 +145,13 @@ fn main() {
         full: false,
         goes: true,
     };
-    let mut turns: u64 = 0;
-    while turns < 0xFFFF_FFFF_FFFF_FFFF {
+    for _ in 0..u64::MAX {
         if !stand.goes {
             return;
         }
         stand = turn(
+            &mut from,
+            &mut to,
             &mut board,
             &mut access,
             &mut records,
@@ -148,6 +161,5 @@ fn main() {
             &mut input,
             &mut output,
         );
-        turns += 1;
     }
 }
