@@ -1,16 +1,20 @@
 # `make demo` proves and builds the replay program and replays the worked sessions; `make test` passes everything.
-.PHONY: demo test quick measure index sizes
+.PHONY: demo test library quick measure index sizes
 
 demo:
-	@scripts/in-memory scripts/demo
+	@scripts/demo
 
 test:
-	@scripts/in-memory scripts/test
+	@.ci/run
 
-# The loop of the daily work: what changed is proved, and the must-fail edits are tried over incremental folders; CRATES='board status'
-# tries those of two crates alone. Not the verdict.
+# The two static libraries for C, in target/staticlib.
+library:
+	@scripts/library
+
+# The loop of the daily work: what changed is proved, and the must-fail edits that it touches are tried; CRATES='board status' is for
+# two crates alone. Not the verdict.
 quick:
-	@scripts/in-memory scripts/quick $(CRATES)
+	@scripts/quick $(CRATES)
 
 # Instructions per message and time of a million messages, beside the second implementation.
 measure:

@@ -19,7 +19,7 @@
  * `board OK` before these lines: the session is the same there. With the argument `block` it offers the
  * list in a block and prints `block OK` for its first line.
  *
- * Build it from the repository's root, after `rt staticlib pomrozek`:
+ * Build it from the repository's root, after `make library`:
  *
  *     cc -std=c99 -Wall -Wextra -Werror -pedantic -O2 -Iinclude examples/bench.c \
  *         target/staticlib/libpomrozek.a -o bench

@@ -7,7 +7,7 @@
  *     pieces 7 96        the same, with an output of 96 bytes in place of 4,096
  *
  * Any cutting prints the same lines. Build it from the repository's root, after
- * `rt staticlib pomrozek_replay`:
+ * `make library`:
  *
  *     cc -std=c99 -Wall -Wextra -Werror -pedantic -O2 -Iinclude examples/pieces.c \
  *         target/staticlib/libpomrozek_replay.a -o pieces

@@ -1,6 +1,6 @@
 /*
  * Pomrozek: a manager of processor boot that speaks TISCI messages. Five functions over memory that the
- * caller lends. x86-64 System V; link target/staticlib/libpomrozek.a (`rt staticlib pomrozek`).
+ * caller lends. x86-64 System V; link target/staticlib/libpomrozek.a (`make library`).
  *
  * Memory. The caller owns every array. A call reads and writes what it is lent and keeps no pointer
  * once it has returned. The library has no heap, no globals and makes no system calls: the archive

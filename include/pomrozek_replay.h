@@ -1,7 +1,7 @@
 /*
  * Pomrozek's replay of session recordings that are delivered in pieces of any size. Three functions over
  * memory that the caller lends. x86-64 System V; link target/staticlib/libpomrozek_replay.a
- * (`rt staticlib pomrozek_replay`). It stands alone: pomrozek.h and libpomrozek.a are not needed, and both
+ * (`make library`). It stands alone: pomrozek.h and libpomrozek.a are not needed, and both
  * libraries may be linked into one program.
  *
  * Recordings. A recording is fields one behind the other, each a tag, a length of two bytes, low byte

@@ -19,20 +19,14 @@ use record::RecordMemory;
 use result_numbers::{outcome_number, role_number, verdict_number};
 
 // Fills the board memory with document 01's board, which stands until a description is taken.
-#[unsafe(no_mangle)]
-pub extern "C" fn pomrozek_start(board: &mut BoardMemory)
+pub fn pomrozek_start(board: &mut BoardMemory)
     ensures { board.new ≡ board_bytes ours }
 {
     start(board)
 }
 
 // Offers a board description and gives the verdict's number: 0 taken, 1 for A1, 200 + k for Dk.
-#[unsafe(no_mangle)]
-pub extern "C" fn pomrozek_board(
-    board: &mut BoardMemory,
-    access: &AccessMemory,
-    description: &[u8],
-) -> u32
+pub fn pomrozek_board(board: &mut BoardMemory, access: &AccessMemory, description: &[u8]) -> u32
     ensures { ExportedBoard board.old access.now description.now
         board.new result }
 {
@@ -40,8 +34,7 @@ pub extern "C" fn pomrozek_board(
 }
 
 // Offers an access list and gives the verdict's number: 0 accepted, k for Ak.
-#[unsafe(no_mangle)]
-pub extern "C" fn pomrozek_list(board: &BoardMemory, access: &mut AccessMemory, list: &[u8]) -> u32
+pub fn pomrozek_list(board: &BoardMemory, access: &mut AccessMemory, list: &[u8]) -> u32
     ensures { ExportedList board.now access.old list.now
         access.new result }
 {
@@ -50,8 +43,7 @@ pub extern "C" fn pomrozek_list(board: &BoardMemory, access: &mut AccessMemory, 
 
 // Offers a security board configuration that must have these ABI bytes, and gives the verdict's number: 0
 // accepted, k for Ak, 100 + k for Bk. The host of B8 goes to `found`, and 0 with any other verdict.
-#[unsafe(no_mangle)]
-pub extern "C" fn pomrozek_block(
+pub fn pomrozek_block(
     board: &BoardMemory,
     access: &mut AccessMemory,
     major: u8,
@@ -79,8 +71,7 @@ fn narrow(written: usize) -> u32
 
 // Carries out one message and gives the outcome's number: 0 OK, k for Nk, 100 + k for Rk. The checks,
 // the microseconds, the number of bytes written and the role's number go to `report`.
-#[unsafe(no_mangle)]
-pub extern "C" fn pomrozek_message(
+pub fn pomrozek_message(
     board: &BoardMemory,
     access: &AccessMemory,
     records: &mut RecordMemory,

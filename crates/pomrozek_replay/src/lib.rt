@@ -111,8 +111,7 @@ fn call_number(over: bool, full: bool) -> u32
 }
 
 // Begins a session: document 01's board, nothing accepted, all records free and zero, nothing held.
-#[unsafe(no_mangle)]
-pub extern "C" fn pomrozek_replay_start(
+pub fn pomrozek_replay_start(
     board: &mut BoardMemory,
     access: &mut AccessMemory,
     records: &mut RecordMemory,
@@ -131,8 +130,7 @@ pub extern "C" fn pomrozek_replay_start(
 
 // Feeds a piece and gives what the call leaves. The bytes taken of the piece and the bytes printed go to
 // `progress`.
-#[unsafe(no_mangle)]
-pub extern "C" fn pomrozek_replay_feed(
+pub fn pomrozek_replay_feed(
     board: &mut BoardMemory,
     access: &mut AccessMemory,
     records: &mut RecordMemory,
@@ -162,8 +160,7 @@ pub extern "C" fn pomrozek_replay_feed(
 
 // Announces the end of the recording and gives what the call leaves. The bytes printed go to `progress`, behind a
 // 0.
-#[unsafe(no_mangle)]
-pub extern "C" fn pomrozek_replay_end(
+pub fn pomrozek_replay_end(
     carry: &CarryBuffer,
     stream: &mut StreamMemory,
     out: &mut [u8],
