@@ -31,6 +31,7 @@ pub struct Stand {
 }
 
 // Feeds what is left of the piece, and writes the lines that it prints. A write that fails ends the session.
+#[tactic(auto, using(recording_feed::proofs::Stops::fed_within))]
 fn feed_piece<W: Write>(
     to: &mut W,
     board: &mut BoardMemory,
@@ -75,6 +76,7 @@ fn feed_piece<W: Write>(
 
 // Announces the end of the session, and writes what that prints. Nothing follows, so a write that fails ends
 // nothing more.
+#[tactic(auto, using(recording_feed::proofs::Stops::ended_within))]
 fn announce<W: Write>(to: &mut W, carry: &CarryBuffer, held: usize, output: &mut Buffer) {
     let ended = finish(carry, held, false, output);
     let used = ended.used;
