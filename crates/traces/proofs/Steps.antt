@@ -120,9 +120,9 @@ module _ (setup : Setup) (chosen : List ℕ) where
 -- a trace of two runs of steps is a trace of each
 pub trace_first : {m : Memories} (xs ys : List Step) → Trace m (xs ++ ys) → Trace m xs
 trace_first [] ys t = done
-trace_first (x ∷ xs) ys (step starts meets rest) = step starts meets (trace_first xs ys rest)
+trace_first {m = m} (x ∷ xs) ys (step starts meets rest) = step starts meets (trace_first {m = after_of x} xs ys rest)
 
 pub trace_then : {m : Memories} (xs ys : List Step) → Trace m (xs ++ ys) → Trace (end_of m xs) ys
 unfolding end_of
 trace_then [] ys t = t
-trace_then (x ∷ xs) ys (step starts meets rest) = trace_then xs ys rest
+trace_then {m = m} (x ∷ xs) ys (step starts meets rest) = trace_then {m = after_of x} xs ys rest
