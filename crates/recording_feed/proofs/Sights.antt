@@ -10,8 +10,6 @@ use lib.ListN.{length, take, drop, length-drop, length-take, take-append-drop}
 use lib.Seq.{take-append-le, drop-append-le, drop-drop, length-take-le}
 use lib.Dec.{eqb}
 use borrow.Author.Tests.{eqb-true, eqb-false}
-use denote.Enum.Declared.{tag_of}
-use types.Run.{OneOf, miss}
 use Rattle.rules.specs.declared.Found.{Found}
 use Rattle.rules.specs.declared.Found.TheVariants.{Whole, Bad, Partial, Nothing}
 use Rattle.rules.specs.Bytes.{byte_at, u16_at}
@@ -23,7 +21,6 @@ use Rattle.recording_feed.specs.declared.cursor.Sight.{Sight}
 use Rattle.recording_feed.specs.declared.cursor.Sight.TheVariants.{Record, Broken, More}
 use Rattle.recording_feed.specs.Pending.{pending, part_by, sight_in, sight_of, broken_in}
 use Rattle.recording_feed.specs.Feed.{passed_bytes}
-use Rattle.recording_feed.specs.contracts.cursor.Sight.{the_type}
 
 -- a part that lies within the first bytes of a list
 pub part-within : (l : List ℕ) (m n k : ℕ) → m + n ≤ k → k ≤ length l → take n (drop m (take k l)) ≡ take n (drop m l)
@@ -154,15 +151,19 @@ record_seen_lem carry piece held at tag c fits there alone is =
     carry_case Partial here e = absurd (no_more tag c e)
     carry_case Nothing here e = absurd (no_more tag c e)
 
+-- no record is in sight
+abbrev pub NoRecord : Sight → Type 0
+NoRecord x = (tag : ℕ) (cursor : Cursor) → x ≡ Record tag cursor → ⊥
+
 -- no record: none is whole, and a bad one is broken
-pub none_seen : (carry piece : List ℕ) (held at : ℕ) → Alone carry held piece at → OneOf (1 ∷ 2 ∷ []) (tag_of the_type (sight_of carry held piece at))
+pub none_seen : (carry piece : List ℕ) (held at : ℕ) → Alone carry held piece at → NoRecord (sight_of carry held piece at)
     → (is_whole (found (pending carry held piece at)) ≡ false) × (broken_in (sight_of carry held piece at) ≡ is_bad (found (pending carry held piece at)))
 none_seen carry piece held at alone =
-    found_in carry piece held at alone (λ (x : Sight) (f : Found). OneOf (1 ∷ 2 ∷ []) (tag_of the_type x) → (is_whole f ≡ false) × (broken_in x ≡ is_bad f))
+    found_in carry piece held at alone (λ (x : Sight) (f : Found). NoRecord x → (is_whole f ≡ false) × (broken_in x ≡ is_bad f))
     (λ _. told false at (found (drop at piece))) (λ _. told true 0 (found (take held carry)))
   where
-    told : (carried : Bool) (x : ℕ) (f : Found) → OneOf (1 ∷ 2 ∷ []) (tag_of the_type (sight_in carried x f)) → (is_whole f ≡ false) × (broken_in (sight_in carried x f) ≡ is_bad f)
-    told carried x (Whole tag n) key = absurd (miss (1 ∷ 2 ∷ []) 0 tt key)
-    told carried x Bad key = (refl, refl)
-    told carried x Partial key = (refl, refl)
-    told carried x Nothing key = (refl, refl)
+    told : (carried : Bool) (x : ℕ) (f : Found) → NoRecord (sight_in carried x f) → (is_whole f ≡ false) × (broken_in (sight_in carried x f) ≡ is_bad f)
+    told carried x (Whole tag n) none = absurd (none _ _ refl)
+    told carried x Bad none = (refl, refl)
+    told carried x Partial none = (refl, refl)
+    told carried x Nothing none = (refl, refl)

@@ -1,0 +1,30 @@
+-- `recording_feed::finish` meets its contract: the carry says how the recording ends.
+use Prim.Native.Nat.{◌≤◌}
+use mathlib.Core.Path.{◌≡◌, sym}
+use native.Mathlib.Omega.{arith}
+use lib.ListN.{length}
+use lib.Seq.{length-take-le}
+use borrow.Author.Rules.{rules}
+use Rattle.recording_stream.specs.Stream.{carry_size}
+use Rattle.recording_feed.proofs.Stops.{end_over, end_full, end_line_lem}
+use Rattle.recording_feed.proofs.finish.Goals as goal
+
+pub returns-then-over : goal.returns-then-over
+returns-then-over c =
+    let a = c.args in
+    end_over a.carry.now a.out.now a.held c.if-over.true
+
+pub returns-then-out-lt-LINE_BYTES : goal.returns-then-out-lt-LINE_BYTES
+returns-then-out-lt-LINE_BYTES c =
+    let a = c.args in
+    end_full a.carry.now a.out.now a.held c.if-over.false c.if-out-lt-LINE_BYTES.true
+
+pub returns : goal.returns
+returns c =
+    let line = c in
+    let found = line in
+    let bound = found in
+    let tested = bound in
+    let a = tested.args in
+    let size : length a.carry.now ≡ carry_size = search rules in
+    end_line_lem a.carry.now a.out.now a.held tested.if-over.false _ _ _ _ size bound.fewer-kept.ensures tested.if-out-lt-LINE_BYTES.false found.find.ensures line.last_line-used.ensures.value line.last_line-used.ensures.out_after
