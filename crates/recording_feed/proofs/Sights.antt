@@ -1,12 +1,12 @@
 -- What is in sight, where the carry is settled, is what the bytes that are there begin with; and where its body stands.
 use Prim.Native.Nat.{ℕ, ◌+◌, ◌-◌, ◌≤◌, ◌<◌}
 use mathlib.Core.Path.{◌≡◌, refl, sym, ap, ap₂, ◌∙◌, subst, subst⁻¹}
-use mathlib.Core.Bool.{Bool, true, false, cond}
-use mathlib.Core.List.{List, [], ◌∷◌, ◌++◌}
+use mathlib.Core.Bool.{Bool, true, false}
+use mathlib.Core.List.{List, ◌++◌}
 use mathlib.Core.Logic.{⊎_elim}
 use native.Mathlib.Nat.{add-sub_cancel_left}
 use native.Mathlib.Omega.{arith}
-use lib.ListN.{length, take, drop, length-drop, length-take, take-append-drop}
+use lib.ListN.{length, take, drop, length-drop, take-append-drop}
 use lib.Seq.{take-append-le, drop-append-le, drop-drop, length-take-le}
 use lib.Dec.{eqb}
 use borrow.Author.Tests.{eqb-true, eqb-false}
@@ -18,7 +18,7 @@ use Rattle.rules.proofs.Tests.{decide, clash, or_left, cond-true, cond-false}
 use Rattle.rules.proofs.Recording.{Finding, nothing, bad_tag, bad_length, tag_alone, head_alone, whole, finding, whole-field, found-behind, field_same, rest_same}
 use Rattle.recording_feed.specs.declared.cursor.Cursor.{Cursor}
 use Rattle.recording_feed.specs.declared.cursor.Sight.{Sight}
-use Rattle.recording_feed.specs.declared.cursor.Sight.TheVariants.{Record, Broken, More}
+use Rattle.recording_feed.specs.declared.cursor.Sight.TheVariants.{Record, More}
 use Rattle.recording_feed.specs.Pending.{pending, part_by, sight_in, sight_of, broken_in}
 use Rattle.recording_feed.specs.Feed.{passed_bytes}
 

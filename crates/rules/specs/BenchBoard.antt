@@ -13,7 +13,7 @@ use Rattle.rules.specs.BenchCluster.{request, set_control, get_status, status_of
 -- ---- the table of rows of document 01's board
 
 -- written out, a number for each of the 256 processor bytes: 1 and 2 have rows 0 and 1, 32 and 33 rows 2 and 3, every other the mark for none. The
--- test over the whole table (`givesRows`) is computed on it in proofs/Rows.antt
+-- test over the whole table (`gives_rows`) is computed on it in proofs/Rows.antt
 abbrev pub our_rows : List ℕ
 our_rows = (rows ∷ 0 ∷ 1 ∷ []) ++ (replicate 29 rows ++ (2 ∷ 3 ∷ replicate 222 rows))
 

@@ -242,7 +242,7 @@ our_bytes =
 
 -- ---- what holds of every such board
 
--- shown once for any description (`board-good` in proofs/Homes.antt); it does not hold of every content of the tables
+-- shown once for any description (`board_good` in proofs/Homes.antt); it does not hold of every content of the tables
 pub record Good (b : Board) : Type 0 where
   -- rows are one-to-one: two processors of which one is on the board have one row only if they are one
   pub rows_apart : (p r : ℕ) → row_of b p ≡ row_of b r → on_board b r ≡ true → p ≡ r

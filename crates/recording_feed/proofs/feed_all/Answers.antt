@@ -1,20 +1,17 @@
 -- `recording_feed::feed_all` meets its contract. The loop's invariant: what is printed stands at the start of the output, and the rest of the call is a
 -- turn of its own. The measure is the number of bytes that are there.
-use Prim.Native.Nat.{ℕ, ◌+◌, ◌-◌, ◌≤◌}
+use Prim.Native.Nat.{◌+◌, ◌-◌, ◌≤◌}
 use mathlib.Core.Path.{◌≡◌, refl, sym, ap, ◌∙◌, subst⁻¹}
-use mathlib.Core.List.{[], ◌∷◌}
 use native.Mathlib.Omega.{arith}
 use lib.ListN.{length}
-use borrow.Author.Rules.{rules}
 use Rattle.rules.specs.Recording.{field_of}
 use Rattle.rules.proofs.Tests.{or_left}
 use Rattle.recording_stream.specs.Stream.{carry_size}
 use Rattle.recording_step.specs.SessionMemory.{session_memories, session_in}
-use Rattle.recording_feed.specs.declared.cursor.Sight.{Sight}
-use Rattle.recording_feed.specs.Pending.{pending, broken_in}
+use Rattle.recording_feed.specs.Pending.{broken_in}
 use Rattle.recording_feed.proofs.Sights.{NoRecord, record_seen_lem, none_seen}
 use Rattle.recording_feed.proofs.Stops.{pending-length, told_stops}
-use Rattle.recording_feed.proofs.Reach.{Reached, reach_start, reach_same, reach_step, reach_words, line-fits, passed_shorter}
+use Rattle.recording_feed.proofs.Reach.{reach_start, reach_same, reach_step, reach_words, passed_shorter}
 use Rattle.recording_feed.proofs.feed_all.Goals as goal
 
 pub loop-tag-init : goal.loop-tag-init

@@ -1,21 +1,10 @@
-use Prim.Native.Nat.{ℕ, ◌+◌, ◌-◌, ◌≤◌}
-use mathlib.Core.Path.{◌≡◌, refl, sym, ap, ◌∙◌, subst⁻¹}
-use mathlib.Core.List.{[], ◌∷◌}
-use native.Mathlib.Omega.{arith}
+use Prim.Native.Nat.{◌+◌, ◌-◌, ◌≤◌}
+use mathlib.Core.Path.{◌≡◌}
 use lib.ListN.{length}
-use denote.Enum.Declared.{tag_of}
-use types.Run.{OneOf}
-use borrow.Author.Rules.{rules}
-use Rattle.rules.specs.Recording.{field_of}
-use Rattle.rules.proofs.Tests.{or_left}
 use Rattle.recording_stream.specs.Stream.{carry_size}
 use Rattle.recording_step.specs.SessionMemory.{session_memories, session_in}
-use Rattle.recording_feed.specs.declared.cursor.Sight.{Sight}
-use Rattle.recording_feed.specs.Pending.{pending, broken_in}
-use Rattle.recording_feed.specs.contracts.cursor.Sight.{the_type}
-use Rattle.recording_feed.proofs.Sights.{record_seen_lem, none_seen}
-use Rattle.recording_feed.proofs.Stops.{pending-length, told_stops}
-use Rattle.recording_feed.proofs.Reach.{Reached, reach_start, reach_same, reach_step, reach_words, line-fits, passed_shorter}
+use Rattle.recording_feed.specs.Pending.{pending}
+use Rattle.recording_feed.proofs.Reach.{Reached}
 use Rattle.recording_feed.proofs.feed_all.Given as goal
 
 abbrev pub invariant-loop-tag : goal.invariant-loop-tag

@@ -1,9 +1,6 @@
 -- `recording_feed::finish` meets its contract: the carry says how the recording ends.
-use Prim.Native.Nat.{◌≤◌}
-use mathlib.Core.Path.{◌≡◌, sym}
-use native.Mathlib.Omega.{arith}
+use mathlib.Core.Path.{◌≡◌}
 use lib.ListN.{length}
-use lib.Seq.{length-take-le}
 use borrow.Author.Rules.{rules}
 use Rattle.recording_stream.specs.Stream.{carry_size}
 use Rattle.recording_feed.proofs.Stops.{end_over, end_full, end_line_lem}

@@ -1,5 +1,4 @@
 -- `recording_feed::skip` meets its contract.
-use borrow.Author.Rules.{rules}
 use Rattle.recording_feed.proofs.Stops.{carry_passed, piece_passed}
 use Rattle.recording_feed.proofs.skip.Goals as goal
 

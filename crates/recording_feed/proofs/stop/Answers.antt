@@ -4,9 +4,8 @@ use mathlib.Core.Path.{◌≡◌, refl, sym, ap, ◌∙◌}
 use mathlib.Core.Bool.{false}
 use native.Mathlib.Omega.{arith}
 use lib.ListN.{length}
-use borrow.Author.Rules.{rules}
 use borrow.Author.Tests.{not-true, not-false}
-use Rattle.rules.specs.Recording.{found, is_whole, is_bad, bad_line}
+use Rattle.rules.specs.Recording.{found, is_whole, bad_line}
 use Rattle.rules.proofs.Tests.{or_right}
 use Rattle.rules.proofs.Recording.{partial_short}
 use Rattle.recording_texts.specs.Texts.{laid}
@@ -38,8 +37,11 @@ returns-then-out-used-lt-LINE_BYTES c =
     let start = c in
     let a = start.args in
     let b = pending a.carry.now a.held a.piece.now a.at in
-    let bad = sym start.requires.at_value.1 ∙ not-false _ (not_from_true _ c.if-not-bad.false) in record { words_value = refl; stopped = λ s. told_stops a.carry.now a.piece.now a.out.now a.held a.at a.used a.words s (or_right (is_whole (found b)) bad) c.if-out-used-lt-LINE_BYTES.true
-          (omega (arith, start.requires.held_in_bounds.0, start.requires.held_in_bounds.1)) start.requires.held_in_bounds.2 }
+    let bad = sym start.requires.at_value.1 ∙ not-false _ (not_from_true _ c.if-not-bad.false) in record {
+      words_value = refl;
+      stopped = λ s. told_stops a.carry.now a.piece.now a.out.now a.held a.at a.used a.words s (or_right (is_whole (found b)) bad) c.if-out-used-lt-LINE_BYTES.true
+          (omega (arith, start.requires.held_in_bounds.0, start.requires.held_in_bounds.1)) start.requires.held_in_bounds.2;
+    }
 
 pub returns : goal.returns
 returns c =
@@ -52,6 +54,9 @@ returns c =
     let bad = sym start.requires.at_value.1 ∙ not-false _ (not_from_true _ tested.if-not-bad.false) in
     let eleven : length line.bad_line.result ≡ 11 = ap length line.bad_line.ensures in
     let room = tested.if-out-used-lt-LINE_BYTES.false in
-    let fits : a.used + length line.bad_line.result ≤ length out = omega (arith, eleven, room, start.requires.held_in_bounds.3) in record { words_value = refl; stopped = λ s. told_breaks a.carry.now a.piece.now out a.held a.at a.used a.words s _ _ bad room
+    let fits : a.used + length line.bad_line.result ≤ length out = omega (arith, eleven, room, start.requires.held_in_bounds.3) in record {
+      words_value = refl;
+      stopped = λ s. told_breaks a.carry.now a.piece.now out a.held a.at a.used a.words s _ _ bad room
           (laid-count out a.used start.requires.held_in_bounds.3 line.bad_line.result _ _ fits told.value told.buffer_after ∙ ap length line.bad_line.ensures)
-          (laid-over out a.used start.requires.held_in_bounds.3 line.bad_line.result _ _ fits told.value told.buffer_after ∙ ap (laid out a.used) line.bad_line.ensures) }
+          (laid-over out a.used start.requires.held_in_bounds.3 line.bad_line.result _ _ fits told.value told.buffer_after ∙ ap (laid out a.used) line.bad_line.ensures);
+    }

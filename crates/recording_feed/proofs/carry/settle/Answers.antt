@@ -2,8 +2,7 @@
 use Prim.Native.Nat.{◌≤◌}
 use native.Mathlib.Omega.{arith}
 use lib.ListN.{length}
-use borrow.Author.Rules.{rules}
-use Rattle.recording_feed.proofs.Moves.{settled_end, settled_later, filled, filled_end}
+use Rattle.recording_feed.proofs.Moves.{settled_later, filled}
 use Rattle.recording_feed.proofs.carry.settle.Goals as goal
 
 pub returns : goal.returns

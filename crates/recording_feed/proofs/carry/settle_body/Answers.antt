@@ -1,11 +1,9 @@
 -- `recording_feed::settle_body` meets its contract: a body of a good length is completed.
 use Prim.Native.Nat.{ℕ, ◌+◌}
-use mathlib.Core.Path.{◌≡◌, sym, ap, ap₂, ◌∙◌}
+use mathlib.Core.Path.{sym, ap, ◌∙◌}
 use native.Mathlib.Omega.{arith}
-use lib.ListN.{length}
-use borrow.Author.Rules.{rules}
 use borrow.Author.Tests.{not-true, not-false}
-use Rattle.rules.specs.Bytes.{byte_at, u16_at}
+use Rattle.rules.specs.Bytes.{byte_at}
 use Rattle.rules.specs.Recording.{length_good}
 use Rattle.rules.proofs.Recording.{length-limit}
 use Rattle.recording_feed.proofs.Moves.{left-bad, filled_body}

@@ -1,9 +1,5 @@
 -- `recording_feed::next_record` meets its contract.
-use Prim.Native.Nat.{◌<◌}
-use mathlib.Core.Path.{sym}
 use native.Mathlib.Omega.{arith}
-use lib.Seq.{length-take-le}
-use borrow.Author.Rules.{rules}
 use Rattle.recording_feed.proofs.Moves.{piece_comes, carry_comes}
 use Rattle.recording_feed.proofs.cursor.next_record.Goals as goal
 

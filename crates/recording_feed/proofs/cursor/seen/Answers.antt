@@ -1,9 +1,7 @@
--- `recording_feed::seen` meets its contract: each arm is a line of `sightIn`, and a whole record ends within the bytes.
-use mathlib.Core.Path.{sym, ap, ◌∙◌}
+-- `recording_feed::seen` meets its contract: each arm is a line of `sight_in`, and a whole record ends within the bytes.
+use mathlib.Core.Path.{sym, ◌∙◌}
 use native.Mathlib.Omega.{arith}
-use borrow.Author.Rules.{rules}
 use Rattle.recording_fields.proofs.Finds.{whole-ends}
-use Rattle.recording_feed.specs.Pending.{sight_in}
 use Rattle.recording_feed.proofs.cursor.seen.Goals as goal
 
 pub overflow_add-start : goal.overflow_add-start

@@ -1,4 +1,4 @@
--- `wire::put_u32` meets its contract: its tests say whether four bytes fit, and its stores are those of `withU32`.
+-- `wire::put_u32` meets its contract: its tests say whether four bytes fit, and its stores are those of `with_u32`.
 use native.Mathlib.Omega.{arith}
 use lib.ListN.{length-set}
 use borrow.Author.Rules.{rules}
