@@ -4,18 +4,16 @@ use native.Mathlib.Nat.{add-zero}
 use native.Mathlib.Omega.{arith}
 use mathlib.Core.Path.{◌≡◌, refl, sym, ap, ap₂, ◌∙◌}
 use mathlib.Core.Bool.{Bool, true, false, cond, ◌&&◌}
-use mathlib.Core.List.{List, [], ◌∷◌}
+use mathlib.Core.List.{List}
 use mathlib.Core.Logic.{⊎_elim}
-use lib.ListN.{length, get_or, take, drop, length-drop}
+use lib.ListN.{length, take, drop, length-drop}
 use lib.Seq.{take_all, get_or-drop, drop-drop}
 use lib.Dec.{eqb, ltb, leb}
 use borrow.Author.Tests.{ltb-false, le-leb, lt-leb, eq-eqb, ne_eqb, eqb-true, leb-true}
-use denote.Enum.Declared.{tag_of}
 use Rattle.rules.specs.declared.Item.{Item}
 use Rattle.rules.specs.Bytes.{byte_at, u16_at}
 use Rattle.rules.specs.Description.{processor_tag, body_size, field_good, no_item, item_in, field_size}
 use Rattle.rules.proofs.Tests.{decide, clash, cond-true, cond-false, and_right}
-use Rattle.wire.specs.contracts.tagged.Tagged.{the_type}
 use Rattle.wire.specs.declared.tagged.Tagged.{Tagged}
 use Rattle.wire.specs.declared.tagged.Tagged.TheVariants.{End, Tag, Head, Field}
 use Rattle.wire.specs.Tagged.{length_at, tagged_at}

@@ -19,10 +19,9 @@ use Rattle.rules.specs.Wait.{ran_out, checks_of, micros_of}
 use Rattle.rules.specs.Outcome.{words_missing, wait_failed, by_words, carried_out}
 use Rattle.rules.specs.Answer.{waited, tells_role}
 use Rattle.rules.proofs.Tests.{cond-true, cond-false}
-use Rattle.board.specs.Memory.{board_in}
-use Rattle.record.specs.Memory.{Memories, record_at, view_in}
+use Rattle.record.specs.Memory.{Memories, view_in}
 use Rattle.message_operation.specs.declared.Decision.{Decision}
-use Rattle.message_operation.specs.Operation.{subject_row, seen_in, decision_on, alone, Carries}
+use Rattle.message_operation.specs.Operation.{seen_in, decision_on, alone, Carries}
 use Rattle.message_operation.proofs.Rows.{Comes, Refused, Admitted, board_held, record_seen, keeps_records, decided, plainly}
 
 -- ---- of any type

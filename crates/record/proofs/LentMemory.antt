@@ -15,7 +15,7 @@ use Rattle.rules.specs.Table.{table_of}
 use Rattle.rules.specs.Board.{Board, rows, row_of, home_at}
 use Rattle.rules.specs.AccessList.{no_entry, no_entries}
 use Rattle.rules.specs.Tally.{no_tallies}
-use Rattle.rules.specs.State.{listed, Own, Records, own_of, joined, free_own, fresh, entry_of, record_in, record_of, view_of, put_in}
+use Rattle.rules.specs.State.{Own, Records, own_of, joined, free_own, fresh, entry_of, record_in, record_of, view_of, put_in}
 use Rattle.rules.proofs.Tests.{decide, cond-true, cond-false}
 use Rattle.rules.proofs.Tables.{table_length, table_here, table_past, table_below, table_set}
 use Rattle.rules.proofs.Homes.{home_small}

@@ -17,7 +17,7 @@ use Rattle.rules.specs.Block.{block_verdict, reported_host}
 use Rattle.rules.specs.Message.{Query, largest_answer}
 use Rattle.rules.specs.Answer.{buffer_after, report_of}
 use Rattle.rules.specs.State.{listed, Records, State, stored}
-use Rattle.rules.specs.Call.{board, list, block, verdict_to, after_message, answer_to, Lent, query_of, next}
+use Rattle.rules.specs.Call.{board, list, verdict_to, after_message, answer_to, Lent, query_of, next}
 use Rattle.rules.specs.Recording.{abi_major, abi_minor, lent_in, list_call, message_call, block_call, board_call, list_word, block_word, board_word, offer_line, message_line, line_of}
 use Rattle.rules.proofs.Tests.{cond-true}
 use Rattle.board.specs.Memory.{board_in}

@@ -1,7 +1,7 @@
 -- A field carried out, by its tag: from a call over the lent memories, as status words, or not at all.
 use Prim.Native.Nat.{ℕ, ◌≤◌, ◌<◌}
 use mathlib.Core.Path.{◌≡◌, refl, sym, ap, ap₂, ◌∙◌, subst⁻¹}
-use mathlib.Core.Bool.{false, cond}
+use mathlib.Core.Bool.{false}
 use mathlib.Core.List.{List, []}
 use lib.ListN.{length, take, drop}
 use lib.Seq.{take-append_seam}
@@ -13,9 +13,9 @@ use Rattle.rules.specs.State.{State}
 use Rattle.rules.specs.Call.{Call}
 use Rattle.rules.specs.Recording.{list_tag, status_tag, message_tag, block_tag, board_tag, Field, field_of, Session, words_in, list_call, message_call, block_call, board_call, Done, called, standing, carry_out}
 use Rattle.rules.proofs.Tests.{cond-true, cond-false}
-use Rattle.record.specs.Memory.{memories, kept}
+use Rattle.record.specs.Memory.{memories}
 use Rattle.record.proofs.Kept.{held_kept}
-use Rattle.recording_texts.specs.Texts.{line_size, printed, Printed}
+use Rattle.recording_texts.specs.Texts.{line_size, Printed}
 use Rattle.recording_texts.proofs.Printing.{laid_none, nothing_printed}
 use Rattle.recording_step.specs.SessionMemory.{SessionMemories, session_memories, session_in, kept_session}
 use Rattle.recording_step.specs.Fields.{CallPlayed, FieldPlayed}

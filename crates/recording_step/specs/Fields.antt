@@ -1,7 +1,6 @@
 -- What carrying out a field leaves: the line that it prints, laid over the start of what is lent, and the session. Where there is no room for a line,
 -- nothing is carried out.
 use Rattle.std.specs.Prelude.{ℕ, ◌≡◌, cond, List}
-use Rattle.rules.specs.State.{State}
 use Rattle.rules.specs.Call.{Call, next}
 use Rattle.rules.specs.Recording.{Field, carry_out, line_of}
 use Rattle.record.specs.Memory.{Memories, state_of, kept}

@@ -10,7 +10,7 @@ use Rattle.rules.specs.declared.Found.TheVariants.{Whole, Bad, Partial, Nothing}
 use Rattle.rules.specs.Recording.{found, is_whole, is_bad, split, Session, session_after, lines_of, bad_line, last_line, transcript}
 use Rattle.rules.proofs.Tests.{clash, or_right, cond-true, cond-false}
 use Rattle.rules.proofs.Recording.{found-behind, transcript-none, transcript-append, rest_none, partial_short}
-use Rattle.recording_stream.specs.Stream.{carry_size, Stream, started, piece_leaves, piece_prints, after_piece, piece_lines, end_line, after_pieces, printed_over, joined_pieces}
+use Rattle.recording_stream.specs.Stream.{carry_size, Stream, piece_leaves, piece_prints, after_piece, piece_lines, end_line, after_pieces, printed_over, joined_pieces}
 
 -- a stream that is over prints nothing more
 pub over_prints : (st : Stream) (pieces : List (List ℕ)) → st.over ≡ true → printed_over st pieces ≡ []

@@ -12,7 +12,7 @@ use Rattle.rules.proofs.Tests.{or_false_left}
 use Rattle.rules.proofs.Recording.{found_nothing, transcript-none}
 use Rattle.recording_stream.specs.Stream.{started, after_end, end_line, joined_pieces}
 use Rattle.recording_stream.specs.Turn.{waiting, turn, turn_from, end_from}
-use Rattle.recording_stream.specs.Statement.{AnyCutting, CarryShort, NothingAfterEnd, OverStays, EndPrints, Feeds, again, next, over, end, CallsPrint}
+use Rattle.recording_stream.specs.Statement.{AnyCutting, CarryShort, NothingAfterEnd, OverStays, EndPrints, again, next, over, end, CallsPrint}
 use Rattle.recording_stream.proofs.Stream.{over_prints, pieces_print, pieces_short}
 use Rattle.recording_stream.proofs.Turn.{turn-prints, turn-ends}
 

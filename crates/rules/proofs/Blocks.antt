@@ -1,6 +1,6 @@
 -- A block (document 02, L1): an accepted one has a good list, which is then in force as the lone list would be, and a hierarchy in which following
 -- supervisors ends; B8 comes where a loop is, and its host is the first in entry order that lies on one.
-use Prim.Native.Nat.{ℕ, ◌-◌, ◌<◌}
+use Prim.Native.Nat.{ℕ, ◌<◌}
 use mathlib.Core.Path.{◌≡◌, refl, sym, subst, ◌∙◌, ap}
 use mathlib.Core.Bool.{Bool, true, false, not}
 use mathlib.Core.List.{List, [], ◌∷◌, ◌++◌}

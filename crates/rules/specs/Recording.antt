@@ -1,6 +1,6 @@
 -- "Session recordings": the tagged fields that a recording has, what each of them does and prints, and what a whole recording prints. Tags 4 and 6
 -- are document 02's, L1 and L8.
-use Rattle.std.specs.Prelude.{ℕ, zero, suc, ◌+◌, ◌*◌, ◌-◌, ◌/◌, ◌%◌, Bool, true, false, cond, not, ◌&&◌, ◌||◌, List, [], ◌∷◌, ◌++◌, length, take, drop, replicate, eqb, leb, ltb}
+use Rattle.std.specs.Prelude.{ℕ, zero, suc, ◌+◌, ◌*◌, ◌/◌, ◌%◌, Bool, true, false, cond, not, ◌&&◌, ◌||◌, List, [], ◌∷◌, ◌++◌, length, take, drop, replicate, eqb, leb, ltb}
 use Rattle.rules.specs.declared.Found.{Found}
 use Rattle.rules.specs.declared.Found.TheVariants.{Whole, Bad, Partial, Nothing}
 use Rattle.rules.specs.declared.Report.{Report}
@@ -13,7 +13,7 @@ use Rattle.rules.specs.Block.{reported_host}
 use Rattle.rules.specs.Message.{largest_answer}
 use Rattle.rules.specs.Outcome.{outcome_number}
 use Rattle.rules.specs.State.{State, fresh}
-use Rattle.rules.specs.Call.{Offer, board, list, block, verdict_to, answer_to, Lent, query_of, Call, offer, message, next}
+use Rattle.rules.specs.Call.{board, list, block, verdict_to, answer_to, Lent, query_of, Call, offer, message, next}
 use Rattle.rules.specs.Text.{ascii, decimal_of, outcome_name, verdict_line, answer_text}
 
 -- ---- "tagged fields ..: one-byte tag, two-byte little-endian length, bytes"

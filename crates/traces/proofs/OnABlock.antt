@@ -21,7 +21,7 @@ use Rattle.board.specs.Memory.{board_bytes}
 use Rattle.board_setup.proofs.Started.{start-read}
 use Rattle.call_offer.specs.Calls.{BlockCall}
 use Rattle.call_offer.proofs.EachCall.{block_call_lem}
-use Rattle.record.specs.Memory.{record_size, Memories, memories}
+use Rattle.record.specs.Memory.{record_size, Memories}
 use Rattle.traces.specs.Trace.{started, block_step, before_of, after_of, Meets, done, step, Loads, Loaded}
 use Rattle.traces.proofs.OnTheBench.{listed-memories}
 

@@ -29,7 +29,7 @@ use Rattle.noninterference.specs.Statement.{clusters_whole}
 use Rattle.access.specs.Memory.{access_size, listed_in, entry_at, entries_in, some_list, setup_in}
 use Rattle.access.specs.InForce.{entry_words}
 use Rattle.call_offer.specs.AccessAfter.{access_by, access_after}
-use Rattle.record.specs.Memory.{record_size, Memories, memories, records_in, state_in}
+use Rattle.record.specs.Memory.{record_size, Memories, records_in, state_in}
 use Rattle.board.specs.Memory.{board_bytes}
 use Rattle.board_setup.proofs.Started.{start-read}
 use Rattle.call_offer.specs.Calls.{ListCall}

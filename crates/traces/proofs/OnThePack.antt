@@ -21,7 +21,7 @@ use Rattle.access.specs.Memory.{access_size, listed_in}
 use Rattle.call_offer.specs.AccessAfter.{access_after}
 use Rattle.call_offer.specs.Calls.{BoardCall, ListCall}
 use Rattle.call_offer.proofs.EachCall.{board_call_lem, list_call_lem}
-use Rattle.record.specs.Memory.{record_size, Memories, memories}
+use Rattle.record.specs.Memory.{record_size, Memories}
 use Rattle.traces.specs.Trace.{started, board_step, list_step, before_of, after_of, Meets, done, step, Loads, Loaded}
 use Rattle.traces.specs.Statement.{CodeNoninterference}
 use Rattle.traces.proofs.Theorem.{of_the_code}

@@ -6,7 +6,6 @@ use mathlib.Core.List.{List, [], ◌∷◌, ◌++◌, map}
 use lib.ListN.{length, take, drop}
 use lib.Seq.{take-append_seam}
 use Rattle.rules.specs.declared.Report.{Report}
-use Rattle.rules.specs.declared.Verdict.{Verdict}
 use Rattle.rules.specs.Answer.{report_of}
 use Rattle.rules.specs.State.{Setup, Records, State, stored}
 use Rattle.rules.specs.Call.{Offer, board, list, block, after_message, Answer, answer_to, Lent, query_of, offer, message, next}

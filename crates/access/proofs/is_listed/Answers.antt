@@ -1,6 +1,5 @@
 -- `access::is_listed` meets its contract.
 use Rattle.access.specs.Memory.{listed_in}
-use borrow.Author.Rules.{rules}
 use Rattle.access.proofs.is_listed.Goals as goal
 
 pub returns : goal.returns

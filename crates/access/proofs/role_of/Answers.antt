@@ -3,7 +3,6 @@ use mathlib.Core.Path.{◌≡◌, sym, ◌∙◌}
 use Rattle.rules.specs.AccessList.{Entry}
 use Rattle.rules.proofs.Permission.{role_zero, role_master, role_open, role_first, role-second, role-third, role-none}
 use Rattle.access.specs.Memory.{entry_at}
-use borrow.Author.Rules.{rules}
 use Rattle.access.proofs.role_of.Goals.{After-word_at, After-word_at-2, After-word_at-3}
 use Rattle.access.proofs.role_of.Goals as goal
 

@@ -5,7 +5,6 @@ use Rattle.rules.specs.declared.Verdict.TheVariants.{B9, B10}
 use Rattle.rules.specs.Table.{first_of}
 use Rattle.rules.specs.Block.{otp_table}
 use Rattle.access_list.proofs.Substructure.{bad_magic_lem, bad_size_lem, past_head}
-use borrow.Author.Rules.{rules}
 use Rattle.access_block.proofs.check_otp.Goals as goal
 
 pub returns-then-u16_at-ne-OTP_MAGIC : goal.returns-then-u16_at-ne-OTP_MAGIC

@@ -1,14 +1,10 @@
 -- `access_block::judge_block` meets its contract: each return is a line of the table, or what a part of the block comes to, after those above it.
-use Prim.Native.Nat.{ℕ}
 use mathlib.Core.Path.{refl, sym}
-use mathlib.Core.List.{List}
 use Rattle.rules.specs.Hierarchy.{loop_reported}
 use Rattle.rules.specs.Block.{hierarchy_part, block_verdict}
 use Rattle.board.specs.Memory.{board_in}
-use Rattle.rules.proofs.Verdicts.{no_fault}
 use Rattle.access_hierarchy.proofs.Faults.{alone-told}
 use Rattle.access_block.proofs.Tables.{again, bad_length_lem, bad-abi, PartsLeft, past-abi, bad_list, bad_hierarchy, otp-decides}
-use borrow.Author.Rules.{rules}
 use Rattle.access_block.proofs.judge_block.Goals as goal
 use Rattle.access_block.proofs.judge_block.Goals.{After-judge_list}
 
@@ -18,7 +14,7 @@ returns-then-listed c =
     let given = c.args in
     let block = given.block.now in
     let alone = alone-told (hierarchy_part block) c.verdict_alone.ensures.verdict_value c.verdict_alone.ensures.host_value
-      (again (board_in given.board.now) given.listed given.major given.minor block c.if-listed.true) refl in
+    (again (board_in given.board.now) given.listed given.major given.minor block c.if-listed.true) refl in
     record { verdict_value = alone.0; host_value = alone.1 }
 
 pub returns-then-block-ne-BLOCK_BYTES : goal.returns-then-block-ne-BLOCK_BYTES
@@ -28,7 +24,7 @@ returns-then-block-ne-BLOCK_BYTES c =
     let block = given.block.now in
     let told = c.verdict_alone-then-block-ne-BLOCK_BYTES.ensures in
     let alone = alone-told (hierarchy_part block) told.verdict_value told.host_value
-      (bad_length_lem (board_in given.board.now) given.listed given.major given.minor block c.if-listed.false c.if-block-ne-BLOCK_BYTES.true) refl in
+    (bad_length_lem (board_in given.board.now) given.listed given.major given.minor block c.if-listed.false c.if-block-ne-BLOCK_BYTES.true) refl in
     record { verdict_value = alone.0; host_value = alone.1 }
 
 pub returns-then-byte_at-major : goal.returns-then-byte_at-major
@@ -38,9 +34,9 @@ returns-then-byte_at-major c =
     let block = given.block.now in
     let told = c.verdict_alone-then-byte_at-major.ensures in
     let alone = alone-told (hierarchy_part block) told.verdict_value told.host_value
-      (bad-abi (board_in given.board.now) given.listed given.major given.minor block c.if-listed.false c.if-block-ne-BLOCK_BYTES.false
-      c.byte_at.ensures c.byte_at-2.ensures c.if-byte_at-major.true)
-      refl in
+    (bad-abi (board_in given.board.now) given.listed given.major given.minor block c.if-listed.false c.if-block-ne-BLOCK_BYTES.false
+    c.byte_at.ensures c.byte_at-2.ensures c.if-byte_at-major.true)
+    refl in
     record { verdict_value = alone.0; host_value = alone.1 }
 
 -- once the list is judged, the parts decide
@@ -60,7 +56,7 @@ returns-in_default c =
 pub returns-in-Accepted-verdict : goal.returns-in-Accepted-verdict
 returns-in-Accepted-verdict c =
     let judged = otp-decides (parts_left (goal.at.returns-in-Accepted-verdict c).After-judge_list) c.in-Accepted.is
-      c.judge_hierarchy-found.ensures.verdict_value c.in-Accepted-verdict.is c.check_otp.ensures in
+    c.judge_hierarchy-found.ensures.verdict_value c.in-Accepted-verdict.is c.check_otp.ensures in
     let told = c.verdict_alone-in-Accepted-verdict.ensures in
     let alone = alone-told (hierarchy_part c.args.block.now) told.verdict_value told.host_value judged.0 judged.1 in
     record { verdict_value = alone.0; host_value = alone.1 }

@@ -1,8 +1,6 @@
 -- `access_hierarchy::check_pair` meets its contract: each return is a line of the table, after those above it.
-use Prim.Native.Nat.{ℕ}
 use mathlib.Core.Path.{◌≡◌, refl, sym, ◌∙◌}
 use mathlib.Core.Bool.{Bool, cond, not}
-use mathlib.Core.List.{List}
 use Rattle.rules.specs.declared.Verdict.TheVariants.{Accepted, B5, B6, B7}
 use Rattle.rules.specs.Table.{first_of}
 use Rattle.rules.specs.Hierarchy.{pair_size}
@@ -10,7 +8,6 @@ use Rattle.board.specs.Memory.{board_in}
 use Rattle.access_list.specs.Entries.{number_before}
 use Rattle.rules.proofs.Tests.{cond-true, cond-false}
 use Rattle.access_hierarchy.proofs.Faults.{pair_lines, unused_pair, used_pair}
-use borrow.Author.Rules.{rules}
 use Rattle.std.proofs.lemmas.Bool.{not_from_true, not_from_false}
 use Rattle.access_hierarchy.proofs.check_pair.Goals as goal
 use Rattle.access_hierarchy.proofs.check_pair.Goals.{After-is_host-2}

@@ -1,18 +1,11 @@
 -- `access_hierarchy::check_pairs` meets its contract. The loop's invariant: the entries passed have no fault, so those from e on decide.
-use Prim.Native.Nat.{◌≤◌, ◌-◌}
 use mathlib.Core.Path.{◌≡◌, refl, sym, ◌∙◌}
-use mathlib.Core.List.{[]}
 use native.Mathlib.Omega.{arith}
-use Rattle.rules.specs.declared.Verdict.TheVariants.{Accepted}
-use Rattle.rules.specs.Table.{first_of}
-use Rattle.rules.specs.Substructure.{entry_count, in_turn}
-use Rattle.rules.specs.Hierarchy.{pair_size, pairs, pair_table}
-use Rattle.rules.proofs.Verdicts.{no_fault}
-use Rattle.board.specs.Memory.{board_in}
+use Rattle.rules.specs.Substructure.{entry_count}
+use Rattle.rules.specs.Hierarchy.{pair_size, pair_table}
 use Rattle.access_list.specs.Entries.{parts_before}
 use Rattle.access_list.proofs.Substructure.{verdict_from, from_last}
-use Rattle.access_hierarchy.proofs.Faults.{left-from, turn-bad, turn-good}
-use borrow.Author.Rules.{rules}
+use Rattle.access_hierarchy.proofs.Faults.{turn-bad, turn-good}
 use Rattle.access_hierarchy.proofs.check_pairs.Goals as goal
 
 pub loop-e-init : goal.loop-e-init

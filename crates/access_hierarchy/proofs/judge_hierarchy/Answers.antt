@@ -2,18 +2,14 @@
 use Prim.Native.Nat.{ℕ}
 use mathlib.Core.Path.{◌≡◌, refl, sym, ap, ◌∙◌}
 use mathlib.Core.Bool.{cond, not}
-use mathlib.Core.List.{List}
 use lib.Dec.{eqb}
 use borrow.Author.Tests.{eq-eqb, ne_eqb}
 use Rattle.rules.specs.declared.Verdict.TheVariants.{Accepted, B3, B4, B8}
-use Rattle.rules.specs.Board.{Board}
 use Rattle.rules.specs.Hierarchy.{pairs, loop_host, hierarchy_table, loop_reported}
 use Rattle.rules.proofs.Tests.{cond-true, cond-false}
-use Rattle.rules.proofs.Verdicts.{no_fault}
 use Rattle.board.specs.Memory.{board_in}
 use Rattle.access_list.proofs.Substructure.{bad_magic_lem, bad_size_lem}
 use Rattle.access_hierarchy.proofs.Faults.{alone-told, whole, pairs-bad, loop-decides}
-use borrow.Author.Rules.{rules}
 use Rattle.access_hierarchy.proofs.judge_hierarchy.Goals as goal
 use Rattle.access_hierarchy.proofs.judge_hierarchy.Goals.{After-check_pairs}
 
@@ -22,7 +18,7 @@ unfolding loop_reported hierarchy_table
 returns-then-u16_at-ne-HIERARCHY_MAGIC c =
     let bytes = c.args.bytes.now in
     let alone = alone-told bytes c.verdict_alone.ensures.verdict_value c.verdict_alone.ensures.host_value
-      (bad_magic_lem 0x8D27 B3 68 B4 bytes _ c.u16_at.ensures c.if-u16_at-ne-HIERARCHY_MAGIC.true) refl in
+    (bad_magic_lem 0x8D27 B3 68 B4 bytes _ c.u16_at.ensures c.if-u16_at-ne-HIERARCHY_MAGIC.true) refl in
     record { verdict_value = alone.0; host_value = alone.1 }
 
 pub returns-then-u16_at : goal.returns-then-u16_at
@@ -31,8 +27,8 @@ returns-then-u16_at c =
     let bytes = c.args.bytes.now in
     let told = c.verdict_alone-then-u16_at.ensures in
     let alone = alone-told bytes told.verdict_value told.host_value
-      (bad_size_lem 0x8D27 B3 68 B4 bytes _ c.u16_at.ensures c.if-u16_at-ne-HIERARCHY_MAGIC.false c.u16_at-2.ensures c.if-u16_at.true)
-      refl in
+    (bad_size_lem 0x8D27 B3 68 B4 bytes _ c.u16_at.ensures c.if-u16_at-ne-HIERARCHY_MAGIC.false c.u16_at-2.ensures c.if-u16_at.true)
+    refl in
     record { verdict_value = alone.0; host_value = alone.1 }
 
 -- once the pairs are judged
@@ -59,9 +55,9 @@ unfolding loop_reported
 returns-then-found-eq0 c =
     let told = c.verdict_alone-then-found-eq0.ensures in
     let alone = alone-told c.args.bytes.now told.verdict_value told.host_value
-      (loop_tells (goal.at.returns-then-found-eq0 c).After-check_pairs c.in-Accepted.is c.loop_host-found.ensures
-      ∙ cond-false B8 Accepted (ap not (eq-eqb _ 0 c.if-found-eq0.true)))
-      refl in
+    (loop_tells (goal.at.returns-then-found-eq0 c).After-check_pairs c.in-Accepted.is c.loop_host-found.ensures
+    ∙ cond-false B8 Accepted (ap not (eq-eqb _ 0 c.if-found-eq0.true)))
+    refl in
     record { verdict_value = alone.0; host_value = alone.1 }
 
 pub returns : goal.returns

@@ -1,12 +1,11 @@
 -- `access_list::judge_list` meets its contract. The entry loop's invariant: the entries passed have no fault, so those from e on decide. The
 -- secondary loop's: those passed are good, so those from k on decide.
-use Prim.Native.Nat.{ℕ, ◌≤◌, ◌+◌, ◌*◌, ◌-◌}
-use mathlib.Core.Path.{◌≡◌, refl, sym, ◌∙◌}
+use Prim.Native.Nat.{ℕ, ◌+◌, ◌*◌, ◌-◌}
+use mathlib.Core.Path.{◌≡◌, sym, ◌∙◌}
 use mathlib.Core.Bool.{cond}
 use mathlib.Core.List.{List}
 use lib.ListN.{take, drop}
 use native.Mathlib.Omega.{arith}
-use borrow.Author.Rules.{rules}
 use borrow.Author.Tests.{ne_eqb}
 use Rattle.rules.specs.Table.{first_of}
 use Rattle.rules.specs.declared.Verdict.{Verdict}
@@ -14,10 +13,9 @@ use Rattle.rules.specs.declared.Verdict.TheVariants.{Accepted, A3, A4, A8}
 use Rattle.rules.specs.Board.{Board}
 use Rattle.board.specs.Memory.{board_in}
 use Rattle.rules.proofs.Tests.{cond-true, cond-false}
-use Rattle.rules.specs.AccessList.{entry_table, content_table, list_table, verdict_of}
+use Rattle.rules.specs.AccessList.{content_table, list_table, verdict_of}
 use Rattle.access_list.specs.Entries.{parts_before}
 use Rattle.access_list.proofs.Substructure.{bad_magic_lem, bad_size_lem, past_head, verdict_from, from_last}
-use Rattle.rules.proofs.Verdicts.{no_fault}
 use Rattle.rules.proofs.Parts.{part_cut}
 use Rattle.access_list.proofs.Verdicts.{past_length, bad_from, secondary_bad, secondary_good, secondaries_good, left-from, turn-unused, turn-bad, turn-good}
 use Rattle.std.proofs.lemmas.Bool.{not_from_true, not_from_false}

@@ -1,23 +1,9 @@
-use Prim.Native.Nat.{ℕ, ◌≤◌, ◌+◌, ◌*◌, ◌-◌}
-use mathlib.Core.Path.{◌≡◌, refl, sym, ◌∙◌}
-use mathlib.Core.Bool.{cond}
-use mathlib.Core.List.{List}
-use lib.ListN.{take, drop}
-use native.Mathlib.Omega.{arith}
-use borrow.Author.Rules.{rules}
-use borrow.Author.Tests.{ne_eqb}
-use Rattle.rules.specs.Table.{first_of}
-use Rattle.rules.specs.declared.Verdict.{Verdict}
-use Rattle.rules.specs.declared.Verdict.TheVariants.{Accepted, A3, A4, A8}
-use Rattle.rules.specs.Board.{Board}
+use Prim.Native.Nat.{◌≤◌, ◌-◌}
+use mathlib.Core.Path.{◌≡◌}
 use Rattle.board.specs.Memory.{board_in}
-use Rattle.rules.proofs.Tests.{cond-true, cond-false}
-use Rattle.rules.specs.AccessList.{entry_table, content_table, list_table, verdict_of}
-use Rattle.access_list.specs.Entries.{parts_before}
-use Rattle.access_list.proofs.Substructure.{bad_magic_lem, bad_size_lem, past_head, verdict_from, from_last}
-use Rattle.rules.proofs.Verdicts.{no_fault}
-use Rattle.rules.proofs.Parts.{part_cut}
-use Rattle.access_list.proofs.Verdicts.{past_length, bad_from, secondary_bad, secondary_good, secondaries_good, left-from, turn-unused, turn-bad, turn-good}
+use Rattle.rules.specs.AccessList.{entry_table, verdict_of}
+use Rattle.access_list.proofs.Substructure.{verdict_from}
+use Rattle.access_list.proofs.Verdicts.{bad_from}
 use Rattle.access_list.proofs.judge_list.Given as goal
 
 abbrev pub invariant-loop-k : goal.invariant-loop-k

@@ -2,7 +2,6 @@
 use mathlib.Core.Path.{ap, ◌∙◌}
 use Rattle.rules.specs.declared.Role.{Role}
 use Rattle.rules.specs.Role.{permits, permitted}
-use borrow.Author.Rules.{rules}
 use Rattle.access_rights.proofs.is_permitted.Goals as goal
 
 pub returns : goal.returns

@@ -1,5 +1,4 @@
 -- `board::class_at` meets its contract: any byte is a class, and past the rows it is the one that the definition gives.
-use borrow.Author.Rules.{rules}
 use Rattle.board.proofs.Read.{class_read, class_past}
 use Rattle.board.proofs.class_at.Goals as goal
 

@@ -1,6 +1,5 @@
 -- `board::home_at` meets its contract: any byte is a home, and past the rows it is the one that the definition gives.
 use native.Mathlib.Omega.{arith}
-use borrow.Author.Rules.{rules}
 use Rattle.board.proofs.Read.{home_read, home_past}
 use Rattle.board.proofs.home_at.Goals as goal
 

@@ -1,7 +1,6 @@
 -- `board::is_active` meets its contract.
 use mathlib.Core.Path.{ap}
 use mathlib.Core.Bool.{not, ◌&&◌}
-use borrow.Author.Rules.{rules}
 use lib.Dec.{eqb}
 use Rattle.rules.specs.Board.{active_host}
 use Rattle.board.proofs.is_active.Goals as goal

@@ -1,5 +1,4 @@
 -- `board::is_host` meets its contract: host 0, a byte of the table, and none above 255.
-use borrow.Author.Rules.{rules}
 use borrow.Author.Tests.{eq-eqb, ne_eqb}
 use Rattle.rules.specs.Board.{board_host}
 use Rattle.board.proofs.Read.{host_read, host_none}

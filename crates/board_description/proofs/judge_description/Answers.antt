@@ -1,15 +1,12 @@
 -- `board_description::judge_description` meets its contract. The loop's invariant: the cursor is at an item, and none of those before has a fault.
-use Prim.Native.Nat.{◌+◌, ◌-◌}
+use Prim.Native.Nat.{◌+◌}
 use mathlib.Core.Path.{sym, ap, ◌∙◌}
 use mathlib.Core.Bool.{Bool}
 use native.Mathlib.Omega.{arith}
-use borrow.Author.Rules.{rules}
-use lib.ListN.{length}
 use Rattle.rules.specs.Table.{first_of}
 use Rattle.rules.specs.Description.{description_table, board_verdict}
 use Rattle.board_description.proofs.Fields.{field_some}
-use Rattle.rules.proofs.Verdicts.{no_fault}
-use Rattle.board_description.proofs.Verdicts.{Reached, reached_start, reached_within, turn-bad, turn-good, end_verdict}
+use Rattle.board_description.proofs.Verdicts.{Reached, reached_start, turn-bad, turn-good, end_verdict}
 use Rattle.board_description.proofs.judge_description.Goals as goal
 use Rattle.board_description.proofs.judge_description.Goals.{After-field_size-at}
 

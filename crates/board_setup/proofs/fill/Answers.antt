@@ -1,9 +1,8 @@
 -- `board_setup::fill` meets its contract. The loop's invariant: the cursor is at an item, the memory has the board that the items before it list,
 -- and `row` is the first free one.
-use Prim.Native.Nat.{◌+◌, ◌-◌}
+use Prim.Native.Nat.{◌+◌}
 use native.Mathlib.Omega.{arith}
 use borrow.Author.Rules.{rules}
-use lib.ListN.{length}
 use Rattle.board_description.proofs.Fields.{field_some}
 use Rattle.board_setup.proofs.Fills.{Filled, filled_start, fill_ready, fill_next, fill_end}
 use Rattle.board_setup.proofs.fill.Goals as goal

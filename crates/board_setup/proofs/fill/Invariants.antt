@@ -1,9 +1,6 @@
 use Prim.Native.Nat.{◌-◌}
-use native.Mathlib.Omega.{arith}
-use borrow.Author.Rules.{rules}
 use lib.ListN.{length}
-use Rattle.board_description.proofs.Fields.{field_some}
-use Rattle.board_setup.proofs.Fills.{Filled, filled_start, fill_ready, fill_next, fill_end}
+use Rattle.board_setup.proofs.Fills.{Filled}
 use Rattle.board_setup.proofs.fill.Given as goal
 
 abbrev pub invariant-loop-at : goal.invariant-loop-at

@@ -1,11 +1,8 @@
 -- `board_setup::home_of` meets its contract. The loop's invariant: the cursor is at item k, `earlier` is the first row behind the processors
 -- passed, and none of those has the cluster's word.
-use Prim.Native.Nat.{ℕ, ◌+◌, ◌-◌, ◌≤◌}
+use Prim.Native.Nat.{ℕ, ◌+◌}
 use mathlib.Core.Path.{◌≡◌, refl, sym, ap, ◌∙◌}
-use mathlib.Core.Bool.{false}
 use native.Mathlib.Omega.{arith}
-use borrow.Author.Rules.{rules}
-use lib.ListN.{length}
 use Rattle.rules.specs.Table.{any_of}
 use Rattle.rules.specs.Description.{item_processor}
 use Rattle.board_description.specs.Cursor.{cursor_at, listed_before}

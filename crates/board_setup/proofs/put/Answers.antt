@@ -1,6 +1,5 @@
 -- `board_setup::put` meets its contract: a host has a mark, a processor a row with its class and home.
 use mathlib.Core.Path.{sym, ap, ◌∙◌}
-use borrow.Author.Rules.{rules}
 use borrow.Author.Tests.{eq-eqb, ne_eqb}
 use Rattle.rules.proofs.Tests.{cond-true, cond-false}
 use Rattle.board.specs.Memory.{with_processor_at}

@@ -1,6 +1,5 @@
 -- `board_setup::row_after` meets its contract.
 use mathlib.Core.Path.{sym}
-use borrow.Author.Rules.{rules}
 use borrow.Author.Tests.{eq-eqb, ne_eqb}
 use Rattle.rules.proofs.Tests.{cond-true, cond-false}
 use Rattle.board_setup.specs.Setup.{row_after}

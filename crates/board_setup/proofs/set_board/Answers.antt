@@ -1,7 +1,5 @@
 -- `board_setup::set_board` meets its contract: a refused description leaves the memory, an accepted one fills it.
 use mathlib.Core.Path.{sym, ◌∙◌}
-use borrow.Author.Rules.{rules}
-use Rattle.rules.proofs.Verdicts.{no_fault}
 use Rattle.board_setup.proofs.Fills.{offer_refused, offer_taken, offer_first}
 use Rattle.board_setup.proofs.set_board.Goals as goal
 

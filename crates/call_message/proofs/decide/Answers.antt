@@ -1,6 +1,4 @@
 -- `call_message::decide` meets its contract: the rows before the type refuse, or those from the type on decide.
-use mathlib.Core.List.{[], ◌∷◌}
-use borrow.Author.Rules.{rules}
 use Rattle.call_message.proofs.Tables.{passed_on, refused_first}
 use Rattle.call_message.proofs.decide.Goals as goal
 

@@ -3,14 +3,12 @@ use mathlib.Core.Path.{◌≡◌, refl, ap, ◌∙◌}
 use mathlib.Core.Bool.{Bool}
 use native.Mathlib.Omega.{arith}
 use Rattle.rules.specs.Block.{list_part, block_verdict}
-use Rattle.rules.proofs.Verdicts.{no_fault}
 use Rattle.board.specs.Memory.{board_in}
 use Rattle.access.specs.Memory.{listed_in}
 use Rattle.access_block.proofs.Tables.{accepted-size}
 use Rattle.call_offer.specs.AccessAfter.{access_after_block}
 use Rattle.call_offer.proofs.EachCall.{block_call_lem}
 use Rattle.call_offer.proofs.Verdicts.{refused, taken}
-use borrow.Author.Rules.{rules}
 use Rattle.call_offer.proofs.offer_block.Goals.{After-judge_block-report}
 use Rattle.call_offer.proofs.offer_block.Goals as goal
 

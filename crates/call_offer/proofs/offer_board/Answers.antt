@@ -1,6 +1,5 @@
 -- `call_offer::offer_board` meets its contract: what crate board_setup leaves, read as the rules' state.
 use Rattle.call_offer.proofs.EachCall.{board_call_lem}
-use borrow.Author.Rules.{rules}
 use Rattle.call_offer.proofs.offer_board.Goals as goal
 
 pub returns : goal.returns

@@ -2,13 +2,11 @@
 use mathlib.Core.Path.{◌≡◌, refl, sym, ap, ◌∙◌}
 use mathlib.Core.Bool.{Bool}
 use Rattle.rules.specs.AccessList.{verdict_of}
-use Rattle.rules.proofs.Verdicts.{no_fault}
 use Rattle.board.specs.Memory.{board_in}
 use Rattle.access.specs.Memory.{listed_in}
 use Rattle.call_offer.specs.AccessAfter.{access_after}
 use Rattle.call_offer.proofs.EachCall.{list_call_lem}
 use Rattle.call_offer.proofs.Verdicts.{refused, taken}
-use borrow.Author.Rules.{rules}
 use Rattle.call_offer.proofs.offer_list.Goals.{After-judge_list}
 use Rattle.call_offer.proofs.offer_list.Goals as goal
 

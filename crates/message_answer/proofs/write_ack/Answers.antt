@@ -1,10 +1,8 @@
 -- `message_answer::write_ack` meets its contract: nothing where none is asked for, the ACK to get status, or the header.
 use mathlib.Core.Path.{sym, ◌∙◌}
-use mathlib.Core.List.{[], ◌∷◌}
 use borrow.Author.Tests.{not-true, not-false}
 use Rattle.rules.specs.Message.{subject_of}
 use Rattle.message_answer.proofs.Answers.{puts_none, puts_given, bytes-unasked, bytes-status, bytes-ack, not_status}
-use borrow.Author.Rules.{rules}
 use Rattle.std.proofs.lemmas.Bool.{not_from_true, not_from_false}
 use Rattle.message_answer.proofs.write_ack.Goals as goal
 

@@ -1,9 +1,8 @@
 -- `message_answer::write_answer` meets its contract: an ACK, nothing or a NAK, by the outcome's number.
-use mathlib.Core.Path.{sym, ◌∙◌}
-use borrow.Author.Tests.{eq-eqb, ne_eqb, le-ltb}
+use mathlib.Core.Path.{◌∙◌}
+use borrow.Author.Tests.{ne_eqb, le-ltb}
 use Rattle.rules.specs.Outcome.{carried_out, silent}
-use Rattle.message_answer.proofs.Answers.{puts_none, puts_same, bytes_ok, bytes-silent, bytes-nak}
-use borrow.Author.Rules.{rules}
+use Rattle.message_answer.proofs.Answers.{puts_none, puts_same, bytes-silent, bytes-nak}
 use Rattle.message_answer.proofs.write_answer.Goals as goal
 
 pub returns-then-number-gt100 : goal.returns-then-number-gt100

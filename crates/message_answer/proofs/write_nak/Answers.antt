@@ -3,7 +3,6 @@ use mathlib.Core.Path.{sym, ◌∙◌}
 use borrow.Author.Tests.{not-true, not-false}
 use Rattle.rules.proofs.Tests.{cond-true, cond-false}
 use Rattle.message_answer.proofs.Answers.{puts_none, puts_given}
-use borrow.Author.Rules.{rules}
 use Rattle.std.proofs.lemmas.Bool.{not_from_true, not_from_false}
 use Rattle.message_answer.proofs.write_nak.Goals as goal
 

@@ -1,6 +1,5 @@
 -- `message_fields::answer_asked` meets its contract.
 use Rattle.rules.specs.Message.{answer_asked}
-use borrow.Author.Rules.{rules}
 use Rattle.message_fields.proofs.answer_asked.Goals as goal
 
 pub returns : goal.returns

@@ -7,7 +7,6 @@ use Rattle.rules.specs.Message.{query}
 use Rattle.board.specs.Memory.{board_in}
 use Rattle.message_operation.proofs.Rows.{Reached, reached, Admitted, too_short_lem, off_board_lem, lacks_right, admitted}
 use Rattle.message_operation.proofs.StatusWords.{no_word, a_word, reads}
-use borrow.Author.Rules.{rules}
 use Rattle.message_get_status.proofs.get_status.Goals.{Else-not-is_permitted, Else-row-ge-ROWS}
 use Rattle.std.proofs.lemmas.Bool.{not_from_true, not_from_false}
 use Rattle.message_get_status.proofs.get_status.Goals as goal

@@ -10,7 +10,6 @@ use Rattle.board.specs.Memory.{board_in}
 use Rattle.message_operation.proofs.Rows.{Loaded, loaded_at, too_short_lem, off_board_lem, lacks_right, wrong-operands, admitted, refuses, carries_own, plainly}
 use Rattle.record.specs.Holder.{with_holder}
 use Rattle.record.proofs.Counted.{holder_is}
-use borrow.Author.Rules.{rules}
 use Rattle.message_handover.proofs.handover.Goals.{After-is_permitted, After-record_at-state}
 use Rattle.std.proofs.lemmas.Bool.{not_from_true, not_from_false}
 use Rattle.message_handover.proofs.handover.Goals as goal

@@ -11,7 +11,6 @@ use Rattle.access.specs.Memory.{entry_at}
 use Rattle.board.specs.Memory.{board_in}
 use Rattle.message_operation.proofs.Rows.{Loaded, loaded_at, too_short_lem, off_board_lem, lacks_right, admitted, refuses, carries_own, requests-early, requests-late}
 use Rattle.record.proofs.Counted.{holder_is}
-use borrow.Author.Rules.{rules}
 use Rattle.message_request.proofs.request.Goals.{After-may_request, After-record_at-state}
 use Rattle.std.proofs.lemmas.Bool.{not_from_true, not_from_false}
 use Rattle.message_request.proofs.request.Goals as goal

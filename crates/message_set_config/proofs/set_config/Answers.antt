@@ -9,7 +9,6 @@ use Rattle.rules.specs.Flags.{config_good}
 use Rattle.rules.specs.Effect.{with_config}
 use Rattle.board.specs.Memory.{board_in}
 use Rattle.message_operation.proofs.Rows.{Reached, Loaded, reached, loaded_at, too_short_lem, off_board_lem, lacks_right, by_class, wrong-operands, admitted, refuses, carries_own, plainly}
-use borrow.Author.Rules.{rules}
 use Rattle.message_set_config.proofs.set_config.Goals.{After-config_good, After-record_at-state}
 use Rattle.std.proofs.lemmas.Bool.{not_from_true, not_from_false}
 use Rattle.message_set_config.proofs.set_config.Goals as goal
@@ -28,8 +27,8 @@ operands : (c : After-config_good) (status : List ℕ) (room : ℕ)
     (vector_low_of c.args.message.now) (config_set_of c.args.message.now) (config_clear_of c.args.message.now)
 operands c status room =
     let r : Reached (board_in c.args.board.now) SetConfig (query c.args.channel c.args.message.now status room) c.row_in-row.result
-          c.record_at-state.result c.record_at-state.result =
-      reached c.if-message-lt-SET_CONFIG_BYTES.false refl c.row_in-row.ensures c.if-row-ge-ROWS.false refl in
+    c.record_at-state.result c.record_at-state.result =
+    reached c.if-message-lt-SET_CONFIG_BYTES.false refl c.row_in-row.ensures c.if-row-ge-ROWS.false refl in
     c.config_good.ensures
     ∙ (λ t.
     config_good (by_class r c.class_at.ensures t) (c.u32_at-low.ensures t) (c.u32_at-set.ensures t) (c.u32_at-clear.ensures t))

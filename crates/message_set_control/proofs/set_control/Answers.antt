@@ -10,7 +10,6 @@ use Rattle.rules.specs.Effect.{with_control}
 use Rattle.board.specs.Memory.{board_in}
 use Rattle.record.specs.Memory.{with_control_word}
 use Rattle.message_operation.proofs.Rows.{Reached, Loaded, reached, loaded_at, too_short_lem, off_board_lem, lacks_right, by_class, wrong-operands, admitted, refuses, carries_control, plainly}
-use borrow.Author.Rules.{rules}
 use Rattle.message_set_control.proofs.set_control.Goals.{After-flags_good, After-record_at-state}
 use Rattle.std.proofs.lemmas.Bool.{not_from_true, not_from_false}
 use Rattle.message_set_control.proofs.set_control.Goals as goal
@@ -29,8 +28,8 @@ operands : (c : After-flags_good) (status : List ℕ) (room : ℕ)
     (control_set_of c.args.message.now) (control_clear_of c.args.message.now)
 operands c status room =
     let r : Reached (board_in c.args.board.now) SetControl (query c.args.channel c.args.message.now status room) c.row_in-row.result
-          c.record_at-state.result c.record_at-state.result =
-      reached c.if-message-lt-SET_CONTROL_BYTES.false refl c.row_in-row.ensures c.if-row-ge-ROWS.false refl in
+    c.record_at-state.result c.record_at-state.result =
+    reached c.if-message-lt-SET_CONTROL_BYTES.false refl c.row_in-row.ensures c.if-row-ge-ROWS.false refl in
     c.flags_good.ensures
     ∙ (λ t. flags_good (by_class r c.class_at.ensures t) control_word (c.u32_at-set.ensures t) (c.u32_at-clear.ensures t))
 

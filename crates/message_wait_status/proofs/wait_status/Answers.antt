@@ -7,7 +7,6 @@ use Rattle.rules.specs.Message.{query}
 use Rattle.board.specs.Memory.{board_in}
 use Rattle.message_operation.proofs.Rows.{Reached, reached, Admitted, too_short_lem, off_board_lem, lacks_right, wrong-operands, admitted}
 use Rattle.message_operation.proofs.StatusWords.{few_words, enough_words, unwaits, waits}
-use borrow.Author.Rules.{rules}
 use Rattle.message_wait_status.proofs.wait_status.Goals.{Else-not-wait_good, Else-row-ge-ROWS}
 use Rattle.std.proofs.lemmas.Bool.{not_from_true, not_from_false}
 use Rattle.message_wait_status.proofs.wait_status.Goals as goal

@@ -4,7 +4,6 @@ use native.Mathlib.Omega.{arith}
 use borrow.Author.Tests.{eq-eqb, ne_eqb}
 use Rattle.rules.specs.Wait.{ran_out, checks_of, micros_of}
 use Rattle.wait.proofs.Runs.{ending_within}
-use borrow.Author.Rules.{rules}
 use Rattle.message_wait_status.proofs.waited.Goals as goal
 
 pub returns-then-ended-eq0 : goal.returns-then-ended-eq0

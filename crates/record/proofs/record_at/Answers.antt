@@ -2,7 +2,6 @@
 use Rattle.rules.specs.Tally.{no_tallies}
 use Rattle.rules.specs.State.{free_own}
 use Rattle.record.proofs.LentMemory.{load_here, load_past}
-use borrow.Author.Rules.{rules}
 use Rattle.record.proofs.record_at.Goals as goal
 
 pub returns-then-row-lt-ROWS : goal.returns-then-row-lt-ROWS

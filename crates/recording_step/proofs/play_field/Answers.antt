@@ -1,13 +1,9 @@
 -- `recording_step::play_field` meets its contract: each tag has its call, with the words that stand, and no more.
 use Prim.Native.Nat.{ℕ}
-use mathlib.Core.Path.{sym, ap, ◌∙◌}
-use native.Mathlib.Omega.{arith}
-use lib.Seq.{length-take-le}
-use borrow.Author.Rules.{rules}
-use borrow.Author.Tests.{ne_eqb}
-use Rattle.rules.specs.Recording.{message_tag, status_tag, field_of, message_call, carry_out}
+use mathlib.Core.Path.{ap, ◌∙◌}
+use Rattle.rules.specs.Recording.{field_of, message_call, carry_out}
 use Rattle.recording_step.specs.SessionMemory.{session_memories, session_in}
-use Rattle.recording_step.proofs.Fields.{carry_message, carry_status, no_room_lem, from_call, from_words}
+use Rattle.recording_step.proofs.Fields.{carry_message, carry_status, from_call, from_words}
 use Rattle.recording_step.proofs.play_field.Goals as goal
 
 pub returns-then-tag-eq-TAG_MESSAGE : goal.returns-then-tag-eq-TAG_MESSAGE

@@ -1,7 +1,6 @@
 -- `recording_step::play_offer` meets its contract: each tag has its call, and no more.
 use Prim.Native.Nat.{ℕ}
 use mathlib.Core.Path.{ap, ◌∙◌}
-use borrow.Author.Rules.{rules}
 use borrow.Author.Tests.{ne_eqb}
 use Rattle.rules.specs.Recording.{list_tag, block_tag, board_tag, field_of, list_call, block_call, board_call, carry_out}
 use Rattle.recording_step.specs.SessionMemory.{session_memories, session_in}

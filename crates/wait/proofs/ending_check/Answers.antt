@@ -1,12 +1,9 @@
 -- `wait::ending_check` meets its contract. The loop's invariant: the run is that of the words passed, and the search from here on
 -- comes to what it comes to from the start.
-use Prim.Native.Nat.{◌≤◌, ◌-◌, min}
-use mathlib.Core.Path.{◌≡◌, refl, sym, ap, ◌∙◌}
+use mathlib.Core.Path.{refl, sym, ap, ◌∙◌}
 use native.Mathlib.Nat.{sub-zero}
 use native.Mathlib.Numerals.{add-one}
 use native.Mathlib.Omega.{arith}
-use borrow.Author.Rules.{rules}
-use lib.ListN.{length}
 use Rattle.rules.specs.Wait.{run_after, first_end, ending_check}
 use Rattle.rules.proofs.Waits.{run-within}
 use Rattle.wait.proofs.Runs.{run_step, none_left, run-ended, run-goes_on}

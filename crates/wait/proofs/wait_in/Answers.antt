@@ -1,6 +1,5 @@
 -- `wait::wait_in` meets its contract, field by field.
 use Rattle.rules.specs.Message.{wait_in}
-use borrow.Author.Rules.{rules}
 use Rattle.wait.proofs.wait_in.Goals as goal
 
 pub returns : goal.returns

@@ -1,13 +1,8 @@
 -- `access::put_in_force` meets its contract. The loop's invariant: the memory is 1 and the words of the first e parts' entries.
-use Prim.Native.Nat.{◌≤◌, ◌-◌}
 use mathlib.Core.Path.{◌≡◌, ◌∙◌}
-use mathlib.Core.List.{◌∷◌}
 use native.Mathlib.Omega.{arith}
-use borrow.Author.Rules.{rules}
 use Rattle.rules.specs.Substructure.{entry_count}
-use Rattle.board.specs.Memory.{board_in}
-use Rattle.access.specs.InForce.{entry_words}
-use Rattle.access.proofs.InForce.{entries_before, none_stored, put_next, entries-all}
+use Rattle.access.proofs.InForce.{none_stored, put_next, entries-all}
 use Rattle.access.proofs.store.put_in_force.Goals as goal
 
 pub loop-e-init : goal.loop-e-init

@@ -1,12 +1,10 @@
 use Prim.Native.Nat.{◌≤◌, ◌-◌}
-use mathlib.Core.Path.{◌≡◌, ◌∙◌}
+use mathlib.Core.Path.{◌≡◌}
 use mathlib.Core.List.{◌∷◌}
-use native.Mathlib.Omega.{arith}
-use borrow.Author.Rules.{rules}
 use Rattle.rules.specs.Substructure.{entry_count}
 use Rattle.board.specs.Memory.{board_in}
 use Rattle.access.specs.InForce.{entry_words}
-use Rattle.access.proofs.InForce.{entries_before, none_stored, put_next, entries-all}
+use Rattle.access.proofs.InForce.{entries_before}
 use Rattle.access.proofs.store.put_in_force.Given as goal
 
 abbrev pub invariant-loop-e : goal.invariant-loop-e

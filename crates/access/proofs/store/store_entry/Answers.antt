@@ -1,7 +1,6 @@
 -- `access::store_entry` meets its contract: an unused entry and one off the board are stored nowhere, and four stores are the words of any other
 -- at its row.
 use Rattle.access.proofs.InForce.{put_unused, put_off, put_on}
-use borrow.Author.Rules.{rules}
 use Rattle.access.proofs.store.store_entry.Goals as goal
 
 pub returns-then-processor-eq0 : goal.returns-then-processor-eq0

@@ -1,14 +1,9 @@
-use Prim.Native.Nat.{ℕ, ◌≤◌, ◌-◌}
-use mathlib.Core.Path.{◌≡◌, ap, ◌∙◌}
-use mathlib.Core.List.{List}
-use lib.ListN.{set}
-use native.Mathlib.Omega.{arith}
-use borrow.Author.Rules.{rules}
+use Prim.Native.Nat.{◌≤◌, ◌-◌}
+use mathlib.Core.Path.{◌≡◌}
 use Rattle.rules.specs.Table.{table_of}
-use Rattle.rules.specs.Substructure.{entry_count, parts_of, parts_from}
+use Rattle.rules.specs.Substructure.{entry_count, parts_from}
 use Rattle.rules.specs.Hierarchy.{pair_size, supervisor_of}
-use Rattle.access_hierarchy.specs.Supervisors.{host_count, supervisors_in}
-use Rattle.access_hierarchy.proofs.Tables.{none_filled, fill_unused, fill_used}
+use Rattle.access_hierarchy.specs.Supervisors.{host_count}
 use Rattle.access_hierarchy.proofs.loops.fill.Given as goal
 
 abbrev pub invariant-loop-e : goal.invariant-loop-e

@@ -1,10 +1,9 @@
 -- `access_hierarchy::loop_host` meets its contract. The loop's invariant: none of the hosts passed lies on a loop, so the entries from e on decide.
-use Prim.Native.Nat.{◌+◌, ◌*◌, ◌≤◌, ◌-◌}
+use Prim.Native.Nat.{◌+◌, ◌*◌}
 use mathlib.Core.Path.{◌≡◌, refl, sym, ◌∙◌}
 use native.Mathlib.Omega.{arith}
-use borrow.Author.Rules.{rules}
-use Rattle.rules.specs.Substructure.{head_size, entry_count, parts_of, parts_from}
-use Rattle.rules.specs.Hierarchy.{pair_size, pairs, on_loop, first_host, loop_host}
+use Rattle.rules.specs.Substructure.{head_size, entry_count, parts_of}
+use Rattle.rules.specs.Hierarchy.{pair_size, first_host, loop_host}
 use Rattle.access_hierarchy.proofs.Tables.{on_loop_is, host_found, host_passed}
 use Rattle.access_hierarchy.proofs.loops.loop_host.Goals as goal
 

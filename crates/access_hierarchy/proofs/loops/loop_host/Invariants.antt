@@ -1,10 +1,7 @@
-use Prim.Native.Nat.{◌+◌, ◌*◌, ◌≤◌, ◌-◌}
-use mathlib.Core.Path.{◌≡◌, refl, sym, ◌∙◌}
-use native.Mathlib.Omega.{arith}
-use borrow.Author.Rules.{rules}
-use Rattle.rules.specs.Substructure.{head_size, entry_count, parts_of, parts_from}
+use Prim.Native.Nat.{◌≤◌, ◌-◌}
+use mathlib.Core.Path.{◌≡◌}
+use Rattle.rules.specs.Substructure.{entry_count, parts_from}
 use Rattle.rules.specs.Hierarchy.{pair_size, pairs, on_loop, first_host, loop_host}
-use Rattle.access_hierarchy.proofs.Tables.{on_loop_is, host_found, host_passed}
 use Rattle.access_hierarchy.proofs.loops.loop_host.Given as goal
 
 abbrev pub invariant-loop-e : goal.invariant-loop-e

@@ -1,11 +1,8 @@
 -- `access_hierarchy::on_loop` meets its contract. The loop's invariant: what is left to follow decides.
-use Prim.Native.Nat.{◌<◌, ◌≤◌, ◌-◌}
-use mathlib.Core.Path.{◌≡◌, refl, sym, ◌∙◌}
+use Prim.Native.Nat.{◌-◌}
+use mathlib.Core.Path.{◌≡◌, sym, ◌∙◌}
 use native.Mathlib.Omega.{arith}
-use borrow.Author.Rules.{rules}
-use Rattle.rules.specs.Substructure.{entry_count}
 use Rattle.rules.specs.Hierarchy.{meets}
-use Rattle.access_hierarchy.specs.Supervisors.{host_count, read_from}
 use Rattle.access_hierarchy.proofs.Tables.{meets-end, meets-here, meets_on}
 use Rattle.access_hierarchy.proofs.loops.on_loop.Goals as goal
 

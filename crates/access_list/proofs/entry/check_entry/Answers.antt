@@ -3,7 +3,6 @@ use Rattle.rules.specs.Table.{first_of}
 use Rattle.rules.specs.Board.{active_host}
 use Rattle.access_list.specs.Entries.{entry_fault}
 use Rattle.access_list.proofs.Verdicts.{off_board_lem, on_board_lem, host_test}
-use borrow.Author.Rules.{rules}
 use Rattle.std.proofs.lemmas.Bool.{not_from_true, not_from_false}
 use Rattle.access_list.proofs.entry.check_entry.Goals as goal
 

@@ -1,11 +1,10 @@
 -- `access_list::named_before` meets its contract. The loop's invariant: none of the entries passed has the number, so the answer is
 -- that of the entries that are left.
-use Prim.Native.Nat.{◌*◌, ◌≤◌, ◌-◌}
-use mathlib.Core.Path.{◌≡◌, refl, sym, ◌∙◌}
+use Prim.Native.Nat.{◌-◌}
+use mathlib.Core.Path.{◌≡◌, sym, ◌∙◌}
 use native.Mathlib.Omega.{arith}
-use borrow.Author.Rules.{rules}
 use Rattle.access_list.specs.Entries.{number_before}
-use Rattle.access_list.proofs.Substructure.{number_here, number_passed, place_small}
+use Rattle.access_list.proofs.Substructure.{number_here, number_passed}
 use Rattle.access_list.proofs.entry.named_before.Goals as goal
 
 pub returns-then-byte_at-number : goal.returns-then-byte_at-number

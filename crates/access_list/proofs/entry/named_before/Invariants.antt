@@ -1,9 +1,6 @@
-use Prim.Native.Nat.{◌*◌, ◌≤◌, ◌-◌}
-use mathlib.Core.Path.{◌≡◌, refl, sym, ◌∙◌}
-use native.Mathlib.Omega.{arith}
-use borrow.Author.Rules.{rules}
+use Prim.Native.Nat.{◌≤◌}
+use mathlib.Core.Path.{◌≡◌}
 use Rattle.access_list.specs.Entries.{number_before}
-use Rattle.access_list.proofs.Substructure.{number_here, number_passed, place_small}
 use Rattle.access_list.proofs.entry.named_before.Given as goal
 
 abbrev pub invariant-loop-i : goal.invariant-loop-i

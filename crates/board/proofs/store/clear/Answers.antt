@@ -1,12 +1,10 @@
 -- `board::clear` meets its contract. The loop's invariant: the first i bytes are those of a board with nothing listed.
-use Prim.Native.Nat.{ℕ, ◌-◌, ◌≤◌}
-use mathlib.Core.Path.{◌≡◌, refl, ap, ◌∙◌}
-use mathlib.Core.List.{List, ◌++◌}
+use Prim.Native.Nat.{ℕ}
+use mathlib.Core.Path.{ap, ◌∙◌}
+use mathlib.Core.List.{List}
 use native.Mathlib.Omega.{arith}
-use borrow.Author.Rules.{rules}
-use lib.ListN.{length, set, take, drop, length-set}
-use Rattle.board.specs.Memory.{board_size}
-use Rattle.board.proofs.EmptyBoard.{clear_bytes, clear_next, clear_all}
+use lib.ListN.{set, length-set}
+use Rattle.board.proofs.EmptyBoard.{clear_next, clear_all}
 use Rattle.board.proofs.store.clear.Goals as goal
 
 pub loop-i-preserved : goal.loop-i-preserved

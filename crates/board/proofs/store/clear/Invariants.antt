@@ -1,11 +1,9 @@
-use Prim.Native.Nat.{ℕ, ◌-◌, ◌≤◌}
-use mathlib.Core.Path.{◌≡◌, refl, ap, ◌∙◌}
-use mathlib.Core.List.{List, ◌++◌}
-use native.Mathlib.Omega.{arith}
-use borrow.Author.Rules.{rules}
-use lib.ListN.{length, set, take, drop, length-set}
+use Prim.Native.Nat.{◌-◌, ◌≤◌}
+use mathlib.Core.Path.{◌≡◌}
+use mathlib.Core.List.{◌++◌}
+use lib.ListN.{length, take, drop}
 use Rattle.board.specs.Memory.{board_size}
-use Rattle.board.proofs.EmptyBoard.{clear_bytes, clear_next, clear_all}
+use Rattle.board.proofs.EmptyBoard.{clear_bytes}
 use Rattle.board.proofs.store.clear.Given as goal
 
 abbrev pub invariant-loop-i : goal.invariant-loop-i

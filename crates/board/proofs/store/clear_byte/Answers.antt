@@ -1,5 +1,4 @@
 -- `board::clear_byte` meets its contract: each return is a table of the memory.
-use borrow.Author.Rules.{rules}
 use borrow.Author.Tests.{lt-ltb, le-ltb}
 use Rattle.board.specs.Memory.{places_place, classes_place, homes_place}
 use Rattle.board.specs.EmptyBoard.{clear_byte}

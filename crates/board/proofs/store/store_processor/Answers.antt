@@ -1,6 +1,5 @@
 -- `board::store_processor` meets its contract: three stores where the row is there.
 use mathlib.Core.Path.{sym}
-use borrow.Author.Rules.{rules}
 use borrow.Author.Tests.{lt-ltb, le-ltb}
 use Rattle.rules.specs.Board.{rows}
 use Rattle.rules.proofs.Tests.{cond-true, cond-false}

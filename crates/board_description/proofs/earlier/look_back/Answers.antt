@@ -1,13 +1,11 @@
 -- `board_description::look_back` meets its contract. The loop's invariant: the cursor is at item k, and what was noted is what the items before
 -- it say.
-use Prim.Native.Nat.{ℕ, ◌+◌, ◌-◌, ◌≤◌}
-use mathlib.Core.Path.{◌≡◌, refl, ap, subst⁻¹, ◌∙◌}
+use Prim.Native.Nat.{◌+◌, ◌≤◌}
+use mathlib.Core.Path.{refl, subst⁻¹, ◌∙◌}
 use native.Mathlib.Omega.{arith}
-use borrow.Author.Rules.{rules}
-use Rattle.board_description.specs.Cursor.{cursor_at, listed_before}
+use Rattle.board_description.specs.Cursor.{cursor_at}
 use Rattle.board_description.proofs.Cursors.{cursor_order, cursor_item, cursor_step}
 use Rattle.board_description.specs.declared.earlier.Before.{Before}
-use Rattle.board_description.specs.EarlierItems.{before_in}
 use Rattle.board_description.proofs.EarlierItems.{walk_start, walk_next, noted-few}
 use Rattle.board_description.proofs.earlier.look_back.Goals as goal
 

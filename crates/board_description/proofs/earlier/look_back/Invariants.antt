@@ -1,12 +1,7 @@
-use Prim.Native.Nat.{ℕ, ◌+◌, ◌-◌, ◌≤◌}
-use mathlib.Core.Path.{◌≡◌, refl, ap, subst⁻¹, ◌∙◌}
-use native.Mathlib.Omega.{arith}
-use borrow.Author.Rules.{rules}
+use Prim.Native.Nat.{◌-◌, ◌≤◌}
+use mathlib.Core.Path.{◌≡◌}
 use Rattle.board_description.specs.Cursor.{cursor_at, listed_before}
-use Rattle.board_description.proofs.Cursors.{cursor_order, cursor_item, cursor_step}
-use Rattle.board_description.specs.declared.earlier.Before.{Before}
 use Rattle.board_description.specs.EarlierItems.{before_in}
-use Rattle.board_description.proofs.EarlierItems.{walk_start, walk_next, noted-few}
 use Rattle.board_description.proofs.earlier.look_back.Given as goal
 
 abbrev pub invariant-loop-k : goal.invariant-loop-k

@@ -1,5 +1,4 @@
 -- `board_description::note` meets its contract: an item of the other kind adds to one answer, one of the same kind to all.
-use borrow.Author.Rules.{rules}
 use borrow.Author.Tests.{not-true, not-false}
 use Rattle.board_description.proofs.EarlierItems.{note_other, note_same}
 use Rattle.std.proofs.lemmas.Bool.{not_from_true, not_from_false}

@@ -1,5 +1,4 @@
 -- `board_description::fault_of` meets its contract: each return is a line of the table, after those above it.
-use borrow.Author.Rules.{rules}
 use Rattle.board_description.proofs.Faults.{fault-D1, fault-D2, fault-D3, fault-D4, fault-D5, fault-D6, fault-none}
 use Rattle.board_description.proofs.fault.fault_of.Goals as goal
 

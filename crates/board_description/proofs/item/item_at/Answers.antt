@@ -1,6 +1,5 @@
 -- `board_description::item_at` meets its contract: each return is a part of what a good field is.
 use native.Mathlib.Omega.{arith}
-use borrow.Author.Rules.{rules}
 use Rattle.rules.specs.Description.{no_item}
 use Rattle.board_description.proofs.Fields.{none_whole, field_ends, none-tag, none-length, whole_item}
 use Rattle.board_description.proofs.item.item_at.Goals as goal

@@ -1,6 +1,5 @@
 -- `board_setup::start` meets its contract: its bytes are the description of document 01's board.
 use mathlib.Core.Path.{refl}
-use borrow.Author.Rules.{rules}
 use Rattle.board_setup.proofs.Started.{start-taken}
 use Rattle.board_setup.proofs.starting.start.Goals as goal
 

@@ -1,6 +1,5 @@
 -- `call_message::by_kind` meets its contract: each arm is what the function of its type decides and leaves.
 use mathlib.Core.Path.{◌≡◌, refl, sym, ◌∙◌}
-use borrow.Author.Rules.{rules}
 use Rattle.rules.specs.declared.Kind.{Kind}
 use Rattle.rules.specs.Message.{kind_in}
 use Rattle.call_message.proofs.Types.{by_type, unknown}

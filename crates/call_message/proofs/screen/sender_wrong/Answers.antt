@@ -5,7 +5,6 @@ use borrow.Author.Tests.{eq-eqb, ne_eqb}
 use Rattle.rules.specs.Board.{active_host}
 use Rattle.board.specs.Memory.{board_in}
 use Rattle.rules.specs.Outcome.{sender_wrong}
-use borrow.Author.Rules.{rules}
 use Rattle.call_message.proofs.screen.sender_wrong.Goals as goal
 
 unlike : (sends same : Bool) → same ≡ false → true ≡ (not sends || not same)

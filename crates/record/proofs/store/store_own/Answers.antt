@@ -2,7 +2,6 @@
 use native.Mathlib.Numerals.{towards_suc}
 use borrow.Author.Tests.{lt-ltb, le-ltb}
 use Rattle.record.specs.Memory.{with_own}
-use borrow.Author.Rules.{rules}
 use Rattle.record.proofs.store.store_own.Goals as goal
 
 pub returns-then-row-lt-ROWS : goal.returns-then-row-lt-ROWS

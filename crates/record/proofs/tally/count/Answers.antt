@@ -3,7 +3,6 @@ use mathlib.Core.Path.{sym, ap, ◌∙◌}
 use lib.ListN.{get_or, set}
 use lib.Seq.{set-get_or}
 use Rattle.rules.proofs.Tally.{more_below, more_at}
-use borrow.Author.Rules.{rules}
 use Rattle.record.proofs.tally.count.Goals as goal
 
 pub returns-then-tally-lt-CAP : goal.returns-then-tally-lt-CAP

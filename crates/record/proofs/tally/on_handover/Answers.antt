@@ -2,7 +2,6 @@
 use mathlib.Core.Path.{◌∙◌}
 use Rattle.rules.specs.declared.Kind.TheVariants.{Handover}
 use Rattle.record.proofs.Counted.{none_there, handed_over, handed_to_itself}
-use borrow.Author.Rules.{rules}
 use Rattle.record.proofs.tally.on_handover.Goals as goal
 
 pub returns-then-row-ge-ROWS : goal.returns-then-row-ge-ROWS

@@ -2,7 +2,6 @@
 use mathlib.Core.Path.{◌∙◌}
 use Rattle.rules.specs.declared.Kind.TheVariants.{Release}
 use Rattle.record.proofs.Counted.{none_there, released}
-use borrow.Author.Rules.{rules}
 use Rattle.record.proofs.tally.on_release.Goals as goal
 
 pub returns-then-row-ge-ROWS : goal.returns-then-row-ge-ROWS

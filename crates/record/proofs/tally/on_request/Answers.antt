@@ -2,7 +2,6 @@
 use mathlib.Core.Path.{◌∙◌}
 use Rattle.rules.specs.declared.Kind.TheVariants.{Request}
 use Rattle.record.proofs.Counted.{none_there, granted, overridden, asked-again}
-use borrow.Author.Rules.{rules}
 use Rattle.record.proofs.tally.on_request.Goals as goal
 
 pub returns-then-row-ge-ROWS : goal.returns-then-row-ge-ROWS

@@ -1,6 +1,5 @@
 -- `recording_fields::find` meets its contract: each arm is a line of `judged`.
 use mathlib.Core.Path.{sym, ◌∙◌}
-use borrow.Author.Rules.{rules}
 use Rattle.rules.proofs.Tests.{cond-true, cond-false}
 use Rattle.recording_fields.proofs.Finds.{finds}
 use Rattle.recording_fields.proofs.field.find.Goals as goal

@@ -1,12 +1,11 @@
 -- `recording_fields::take_words` meets its contract. The loop's invariant: the first i words are laid.
-use Prim.Native.Nat.{ℕ, ◌-◌, ◌/◌, ◌≤◌}
-use mathlib.Core.Path.{◌≡◌, refl, sym, ap, ◌∙◌}
+use Prim.Native.Nat.{ℕ}
+use mathlib.Core.Path.{◌≡◌, sym, ap, ◌∙◌}
 use mathlib.Core.List.{List, ◌++◌}
 use native.Mathlib.Numerals.{add-one}
 use native.Mathlib.Omega.{arith}
-use borrow.Author.Rules.{rules}
 use lib.ListN.{length, get_or, set, take, drop, length-set}
-use Rattle.rules.specs.Recording.{word_limit, words_in}
+use Rattle.rules.specs.Recording.{words_in}
 use Rattle.recording_fields.proofs.Taken.{taken-length, taken_at, next_word, all_words}
 use Rattle.recording_fields.proofs.words.take_words.Goals as goal
 

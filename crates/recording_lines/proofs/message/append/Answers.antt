@@ -1,13 +1,11 @@
 -- `recording_lines::append` meets its contract. The loop's invariant: the first i bytes are laid.
-use Prim.Native.Nat.{ℕ, ◌+◌, ◌≤◌, ◌-◌}
-use mathlib.Core.Path.{◌≡◌, refl, sym, ap, ◌∙◌}
+use Prim.Native.Nat.{ℕ, ◌+◌}
+use mathlib.Core.Path.{sym, ap, ◌∙◌}
 use mathlib.Core.List.{List}
 use native.Mathlib.Numerals.{add-one}
 use native.Mathlib.Omega.{arith}
-use lib.ListN.{length, get_or, set, take, length-set}
-use lib.Seq.{take-length}
+use lib.ListN.{get_or, set, take, length-set}
 use Rattle.recording_texts.specs.Texts.{laid}
-use Rattle.recording_texts.proofs.Printing.{laid_none}
 use Rattle.recording_lines.proofs.Laid.{laid_next}
 use Rattle.recording_lines.proofs.message.append.Goals as goal
 

@@ -1,7 +1,6 @@
 -- `recording_lines::append_answer` meets its contract: `-` where nothing was written.
 use borrow.Author.Tests.{eq-eqb, ne_eqb}
 use Rattle.rules.specs.Text.{answer_text}
-use borrow.Author.Rules.{rules}
 use Rattle.recording_lines.proofs.message.append_answer.Goals as goal
 
 pub returns-then-bytes-eq0 : goal.returns-then-bytes-eq0

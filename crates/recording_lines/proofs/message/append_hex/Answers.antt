@@ -1,12 +1,11 @@
 -- `recording_lines::append_hex` meets its contract. The loop's invariant: the digits of the first i bytes are laid.
-use Prim.Native.Nat.{ℕ, ◌+◌, ◌*◌, ◌/◌, ◌%◌, ◌≤◌, ◌-◌}
+use Prim.Native.Nat.{ℕ, ◌+◌, ◌*◌, ◌/◌, ◌%◌}
 use mathlib.Core.Path.{◌≡◌, refl, sym, ap, ap₂, ◌∙◌}
 use mathlib.Core.List.{List}
 use native.Mathlib.Numerals.{add-one}
 use native.Mathlib.Omega.{arith}
 use lib.ListN.{length, get_or, set, take, length-set}
 use lib.Seq.{take-length}
-use borrow.Author.Rules.{rules}
 use Rattle.rules.specs.Text.{glyph, hex_of}
 use Rattle.recording_texts.specs.Texts.{laid}
 use Rattle.recording_texts.proofs.Printing.{laid_none}
@@ -37,5 +36,8 @@ returns c =
     let a = c.args in
     let l = c.loop-i in
     let s = a.bytes.now in
-    let all : l.i ≡ length s = omega arith in record { value = ap (λ (n : ℕ). a.at + 2 * n) all ∙ ap (λ (n : ℕ). a.at + n) (sym (length-hex s)); line_after = l.invariant.1 ∙ ap (λ (n : ℕ). laid a.line.now a.at (hex_of (take n s))) all
-          ∙ ap (λ (x : List ℕ). laid a.line.now a.at (hex_of x)) (take-length s) }
+    let all : l.i ≡ length s = omega arith in record {
+      value = ap (λ (n : ℕ). a.at + 2 * n) all ∙ ap (λ (n : ℕ). a.at + n) (sym (length-hex s));
+      line_after = l.invariant.1 ∙ ap (λ (n : ℕ). laid a.line.now a.at (hex_of (take n s))) all
+          ∙ ap (λ (x : List ℕ). laid a.line.now a.at (hex_of x)) (take-length s);
+    }

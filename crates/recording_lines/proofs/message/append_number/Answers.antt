@@ -1,8 +1,6 @@
 -- `recording_lines::append_number` meets its contract: one digit, or as many as there are.
 use native.Mathlib.Omega.{arith}
-use lib.ListN.{length-set}
 use Rattle.recording_lines.proofs.Digits.{laid-digit}
-use borrow.Author.Rules.{rules}
 use Rattle.recording_lines.proofs.message.append_number.Goals as goal
 
 pub returns-then-number-lt10-clause-value : goal.returns-then-number-lt10-clause-value

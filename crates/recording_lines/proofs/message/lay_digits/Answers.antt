@@ -1,10 +1,9 @@
 -- `recording_lines::lay_digits` meets its contract. The loop's invariant: the digits that are left, laid over the line, make it the one that is
 -- promised.
-use Prim.Native.Nat.{ℕ, ◌+◌, ◌≤◌}
+use Prim.Native.Nat.{ℕ}
 use mathlib.Core.Path.{◌≡◌, refl, ap, ◌∙◌}
 use native.Mathlib.Omega.{arith}
-use lib.ListN.{length, length-set}
-use Rattle.rules.specs.Text.{decimal_in}
+use lib.ListN.{length-set}
 use Rattle.recording_texts.specs.Texts.{laid}
 use Rattle.recording_lines.proofs.Digits.{last_digits, last-all, laid-lower}
 use Rattle.recording_texts.proofs.Printing.{laid_none}

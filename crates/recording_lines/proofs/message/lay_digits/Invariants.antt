@@ -1,11 +1,9 @@
-use Prim.Native.Nat.{ℕ, ◌+◌, ◌≤◌}
-use mathlib.Core.Path.{◌≡◌, refl, ap, ◌∙◌}
-use native.Mathlib.Omega.{arith}
-use lib.ListN.{length, length-set}
+use Prim.Native.Nat.{◌+◌, ◌≤◌}
+use mathlib.Core.Path.{◌≡◌}
+use lib.ListN.{length}
 use Rattle.rules.specs.Text.{decimal_in}
 use Rattle.recording_texts.specs.Texts.{laid}
-use Rattle.recording_lines.proofs.Digits.{last_digits, last-all, laid-lower}
-use Rattle.recording_texts.proofs.Printing.{laid_none}
+use Rattle.recording_lines.proofs.Digits.{last_digits}
 use Rattle.recording_lines.proofs.message.lay_digits.Given as goal
 
 abbrev pub invariant-loop-i : goal.invariant-loop-i

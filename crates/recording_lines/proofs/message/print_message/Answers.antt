@@ -1,14 +1,12 @@
 -- `recording_lines::print_message` meets its contract: the line, or nothing.
-use mathlib.Core.Path.{ap, ap₂}
-use mathlib.Core.Bool.{Bool, ◌&&◌}
+use mathlib.Core.Path.{ap₂}
+use mathlib.Core.Bool.{◌&&◌}
 use lib.ListN.{length}
-use lib.Dec.{leb}
-use borrow.Author.Tests.{le-leb, lt-leb}
+use borrow.Author.Tests.{le-leb}
 use Rattle.rules.specs.Recording.{message_line}
-use Rattle.recording_texts.proofs.Printing.{nothing_printed, all_printed}
+use Rattle.recording_texts.proofs.Printing.{all_printed}
 use Rattle.recording_texts.specs.Texts.{line_size}
 use Rattle.rules.specs.Message.{largest_answer}
-use borrow.Author.Rules.{rules}
 use Rattle.recording_lines.proofs.message.print_message.Goals as goal
 
 pub returns : goal.returns

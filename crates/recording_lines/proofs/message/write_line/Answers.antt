@@ -1,5 +1,5 @@
 -- `recording_lines::write_line` meets its contract: five pieces, each laid behind the last, and short enough for the line.
-use Prim.Native.Nat.{ℕ, ◌+◌}
+use Prim.Native.Nat.{ℕ}
 use mathlib.Core.Path.{◌≡◌, refl, ap, ◌∙◌}
 use mathlib.Core.Bool.{Bool, true, false}
 use mathlib.Core.List.{[], ◌∷◌, ◌++◌}
@@ -11,7 +11,6 @@ use Rattle.rules.specs.Outcome.{outcome_number}
 use Rattle.rules.specs.Text.{decimal_of, outcome_name, answer_text}
 use Rattle.recording_lines.proofs.Digits.{number_short}
 use Rattle.recording_lines.proofs.Laid.{laid_both, answer_short}
-use borrow.Author.Rules.{rules}
 use Rattle.recording_lines.proofs.message.write_line.Goals as goal
 
 name-three : (n : ℕ) → length (outcome_name n ++ (32 ∷ [])) ≡ 3

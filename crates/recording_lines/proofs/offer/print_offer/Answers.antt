@@ -1,15 +1,12 @@
 -- `recording_lines::print_offer` meets its contract: the word, and the verdict's text behind it, or nothing.
 use Prim.Native.Nat.{◌≤◌}
-use mathlib.Core.Path.{◌≡◌, sym}
+use mathlib.Core.Path.{◌≡◌}
 use native.Mathlib.Omega.{arith}
 use lib.ListN.{length}
 use lib.Seq.{length-take-le}
-use borrow.Author.Tests.{lt-leb}
 use Rattle.rules.specs.Verdict.{verdict_number}
 use Rattle.rules.specs.Text.{verdict_line}
 use Rattle.recording_texts.proofs.Lines.{text-short, text-is}
-use Rattle.recording_texts.specs.Texts.{line_size, has_room}
-use Rattle.recording_texts.proofs.Printing.{nothing_printed}
 use Rattle.rules.specs.Recording.{offer_line}
 use Rattle.wire.proofs.Puts.{put_count, put_over}
 use Rattle.recording_lines.proofs.Offers.{offer_printed}

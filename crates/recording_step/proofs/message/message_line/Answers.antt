@@ -4,7 +4,6 @@ use native.Mathlib.Omega.{arith}
 use lib.Seq.{length-take-le}
 use Rattle.record.specs.Memory.{memories}
 use Rattle.recording_step.proofs.Calls.{written_few, message_played}
-use borrow.Author.Rules.{rules}
 use Rattle.recording_step.proofs.message.message_line.Goals as goal
 
 pub slice_bounds-answer-end : goal.slice_bounds-answer-end

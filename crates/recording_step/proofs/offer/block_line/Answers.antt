@@ -1,7 +1,6 @@
 -- `recording_step::block_line` meets its contract: the block call, and its line.
 use Rattle.record.specs.Memory.{memories}
 use Rattle.recording_step.proofs.Calls.{block_played}
-use borrow.Author.Rules.{rules}
 use Rattle.recording_step.proofs.offer.block_line.Goals as goal
 
 pub returns : goal.returns

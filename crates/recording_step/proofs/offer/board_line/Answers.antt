@@ -1,7 +1,6 @@
 -- `recording_step::board_line` meets its contract: the board call, and its line.
 use Rattle.record.specs.Memory.{memories}
 use Rattle.recording_step.proofs.Calls.{board_played}
-use borrow.Author.Rules.{rules}
 use Rattle.recording_step.proofs.offer.board_line.Goals as goal
 
 pub returns : goal.returns

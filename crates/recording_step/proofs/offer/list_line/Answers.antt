@@ -1,7 +1,6 @@
 -- `recording_step::list_line` meets its contract: the list call, and its line.
 use Rattle.record.specs.Memory.{memories}
 use Rattle.recording_step.proofs.Calls.{list_played}
-use borrow.Author.Rules.{rules}
 use Rattle.recording_step.proofs.offer.list_line.Goals as goal
 
 pub returns : goal.returns

@@ -3,7 +3,6 @@ use Prim.Native.Nat.{◌<◌}
 use mathlib.Core.Path.{refl}
 use native.Mathlib.Omega.{arith}
 use Rattle.recording_texts.proofs.Lines.{loop-one, loop-two, loop-three, told}
-use borrow.Author.Rules.{rules}
 use Rattle.recording_texts.proofs.verdict.loop_text.Goals as goal
 
 pub returns-then-host-lt10-clause-bytes_value : goal.returns-then-host-lt10-clause-bytes_value

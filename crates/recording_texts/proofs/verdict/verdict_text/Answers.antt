@@ -3,9 +3,7 @@ use Prim.Native.Nat.{ℕ, ◌+◌, ◌%◌}
 use mathlib.Core.Path.{refl, sym, ap, ap₂, ◌∙◌}
 use mathlib.Core.List.{[], ◌∷◌}
 use Rattle.rules.specs.Text.{verdict_letter, verdict_line}
-use Rattle.recording_texts.specs.Names.{loop_line}
 use Rattle.recording_texts.proofs.Lines.{ten_line, plain_line, told}
-use borrow.Author.Rules.{rules}
 use Rattle.recording_texts.proofs.verdict.verdict_text.Goals as goal
 
 pub returns-then-number-eq110-clause-bytes_value : goal.returns-then-number-eq110-clause-bytes_value

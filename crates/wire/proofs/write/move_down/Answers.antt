@@ -1,12 +1,11 @@
 -- `wire::move_down` meets its contract. The loop's invariant: n bytes are moved, and those behind them stand as they stood.
-use Prim.Native.Nat.{ℕ, ◌+◌, ◌-◌, ◌≤◌}
-use mathlib.Core.Path.{◌≡◌, refl, sym, ap, ◌∙◌}
+use Prim.Native.Nat.{ℕ, ◌+◌}
+use mathlib.Core.Path.{sym, ap, ◌∙◌}
 use mathlib.Core.List.{List, ◌++◌}
 use native.Mathlib.Numerals.{add-one}
 use native.Mathlib.Omega.{arith}
-use lib.ListN.{length, get_or, set, take, drop, length-set, length-drop}
-use borrow.Author.Tests.{lt-leb, le-leb}
-use Rattle.wire.proofs.Moved.{laid_more, moved_next, moved_all}
+use lib.ListN.{get_or, set, take, drop, length-set, length-drop}
+use Rattle.wire.proofs.Moved.{laid_more, moved_next}
 use Rattle.wire.proofs.write.move_down.Goals as goal
 
 pub loop-n-preserved : goal.loop-n-preserved

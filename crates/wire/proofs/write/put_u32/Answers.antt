@@ -1,7 +1,5 @@
 -- `wire::put_u32` meets its contract: its tests say whether four bytes fit, and its stores are those of `with_u32`.
 use native.Mathlib.Omega.{arith}
-use lib.ListN.{length-set}
-use borrow.Author.Rules.{rules}
 use Rattle.wire.proofs.Numbers.{u32_unfit, u32_put}
 use Rattle.wire.proofs.write.put_u32.Goals as goal
 
