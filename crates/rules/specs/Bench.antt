@@ -45,7 +45,7 @@ set_config host low clear =
     ++ u32_bytes low ++ u32_bytes 0 ++ u32_bytes 0 ++ u32_bytes clear)
     []
 
--- waits 10, matches 2, delays 2 and 0, set-any 3, clear_all 0x10
+-- waits 10, matches 2, delays 2 and 0, set-any 3, clear-all 0x10
 abbrev pub wait_status : ℕ → List ℕ → Call
 wait_status host words =
     sent host

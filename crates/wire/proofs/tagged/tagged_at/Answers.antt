@@ -1,4 +1,4 @@
--- `wire::tagged_at` meets its contract: each test is a line of `taggedAt`.
+-- `wire::tagged_at` meets its contract: each test is a line of `tagged_at`.
 use Rattle.wire.proofs.Fields.{at-end, at_tag, at_head, at_field}
 use Rattle.wire.proofs.tagged.tagged_at.Goals as goal
 
