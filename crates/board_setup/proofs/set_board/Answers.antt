@@ -1,4 +1,5 @@
 -- `board_setup::set_board` meets its contract: a refused description leaves the memory, an accepted one fills it.
+use borrow.Author.Rules.{rules}
 use mathlib.Core.Path.{sym, ◌∙◌}
 use Rattle.board_setup.proofs.Fills.{offer_refused, offer_taken, offer_first}
 use Rattle.board_setup.proofs.set_board.Goals as goal
@@ -6,7 +7,7 @@ use Rattle.board_setup.proofs.set_board.Goals as goal
 pub returns-in_default : goal.returns-in_default
 returns-in_default c =
     let judged = c.judge_description.ensures in
-    record { verdict = judged; memory = offer_refused _ _ judged c.in_default.not-Accepted }
+    record { verdict = judged; memory = offer_refused _ _ judged (search rules) }
 
 pub fill-requires : goal.fill-requires
 fill-requires c = offer_first _ _ c.judge_description.ensures c.in-Accepted.is

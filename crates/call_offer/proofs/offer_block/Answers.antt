@@ -1,4 +1,5 @@
 -- `call_offer::offer_block` meets its contract: a refused block leaves the memory, of an accepted one the list is in force.
+use borrow.Author.Rules.{rules}
 use mathlib.Core.Path.{◌≡◌, refl, ap, ◌∙◌}
 use mathlib.Core.Bool.{Bool}
 use native.Mathlib.Omega.{arith}
@@ -25,7 +26,7 @@ unfolding access_after_block
 returns-in_default c =
     let a = c.args in
     block_call_lem a.board.now a.access.now a.block.now refl a.major a.minor (told (goal.at.returns-in_default c).After-judge_block-report) c.judge_block-report.ensures.host_value
-    (refused _ a.access.now (list_part a.block.now) (told (goal.at.returns-in_default c).After-judge_block-report) c.in_default.not-Accepted)
+    (refused _ a.access.now (list_part a.block.now) (told (goal.at.returns-in_default c).After-judge_block-report) (search rules))
 
 pub slice_bounds-put_in_force-end : goal.slice_bounds-put_in_force-end
 slice_bounds-put_in_force-end c =

@@ -1,4 +1,5 @@
 -- `board_description::item_at` meets its contract: each return is a part of what a good field is.
+use borrow.Author.Rules.{rules}
 use native.Mathlib.Omega.{arith}
 use Rattle.rules.specs.Description.{no_item}
 use Rattle.board_description.proofs.Fields.{none_whole, field_ends, none-tag, none-length, whole_item}
@@ -6,7 +7,7 @@ use Rattle.board_description.proofs.item.item_at.Goals as goal
 
 pub returns-in_default : goal.returns-in_default
 unfolding no_item
-returns-in_default c = none_whole _ _ c.tagged_at-tagged.ensures c.in_default.not-Field
+returns-in_default c = none_whole _ _ c.tagged_at-tagged.ensures (search rules)
 
 pub returns-then-size-eq0 : goal.returns-then-size-eq0
 unfolding no_item

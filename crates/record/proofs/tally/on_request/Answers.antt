@@ -1,4 +1,5 @@
 -- `record::on_request` meets its contract: a grant, an override or nothing, by a law for each.
+use native.Mathlib.Omega.{arith}
 use mathlib.Core.Path.{◌∙◌}
 use Rattle.rules.specs.declared.Kind.TheVariants.{Request}
 use Rattle.record.proofs.Counted.{none_there, granted, overridden, asked-again}
@@ -22,4 +23,4 @@ returns c =
     let a = c.args in
     c.count-2.ensures
     ∙ overridden a.records.now a.row a.host c.if-row-ge-ROWS.false c.if-before-eq0.false
-    c.if-before-host.false
+    (λ same. omega arith)
