@@ -1,3 +1,4 @@
 -- What the proofs of this crate and of those above it share.
 pub mod Kept
 pub mod InForce
+pub mod Roles

@@ -5,8 +5,8 @@
 
 mod store;
 
-ghost use Rattle.std.specs.Prelude.{◌≡◌, cond, get_or};
-ghost use Rattle.rules.specs.declared.Role.TheVariants.{None, Open};
+ghost use Rattle.std.specs.Prelude.{◌≡◌, None, Some, cond};
+ghost use Rattle.rules.specs.declared.Role.TheVariants.{Open};
 ghost use Rattle.rules.specs.Board.{active_host};
 ghost use Rattle.rules.specs.Role.{role_of};
 ghost use Rattle.board.specs.Memory.{board_in};
@@ -15,6 +15,7 @@ ghost use Rattle.access.specs.Memory.{listed_in, entry_at};
 use board::{BoardMemory, is_active};
 use rules::Role;
 pub use store::put_in_force;
+use wire::item_or;
 
 // The access memory: a mark, and four words for each row.
 pub const ACCESS_WORDS: usize = 129;
@@ -26,57 +27,49 @@ const FIRST_ENTRY: usize = 1;
 
 const ENTRY_WORDS: usize = 4;
 
-// The word at place `i` of the access memory; past its end there are zeros.
-fn word_at(access: &[u16], i: usize) -> u16
-    ensures { result ≡ get_or access.now i 0 }
-{
-    if i < access.len() {
-        return access[i];
-    }
-    0
-}
-
 // Whether a list was accepted, alone or in a block.
+#[tactic(auto, unfolding(crate::specs::Memory::listed_in))]
 pub fn is_listed(access: &[u16]) -> bool
     ensures { result ≡ listed_in access.now }
 {
-    word_at(access, 0) != 0
+    item_or(access, 0, 0) != 0
 }
 
 // The role of `host` on a processor without an entry, which is open to every board host but 0.
-fn open_role(board: &BoardMemory, host: u16) -> Role
-    ensures { result ≡ cond (active_host (board_in board.now) host) Open None }
+fn open_role(board: &BoardMemory, host: u16) -> Option<Role>
+    ensures { result ≡ cond (active_host (board_in board.now) host) (Some Open) None }
 {
     if is_active(board, host) {
-        return Role::Open;
+        return Some(Role::Open);
     }
-    Role::None
+    None
 }
 
 // The role of `host` for the processor at `row`. Host 0 has none: it is never permitted, and a secondary of
 // 0 is unused. By an entry the master comes first, then the lowest place.
-pub fn role_of(board: &BoardMemory, access: &[u16], row: u8, host: u16) -> Role
+#[tactic(auto, using(crate::proofs::Roles::roles), unfolding(crate::specs::Memory::entry_at))]
+pub fn role_of(board: &BoardMemory, access: &[u16], row: u8, host: u16) -> Option<Role>
     ensures { result ≡ role_of (board_in board.now) (entry_at access.now row) host }
 {
     if host == 0 {
-        return Role::None;
+        return None;
     }
-    let at = FIRST_ENTRY + ENTRY_WORDS * (row as usize);
-    let master = word_at(access, at);
+    let at = FIRST_ENTRY + ENTRY_WORDS * usize::from(row);
+    let master = item_or(access, at, 0);
     if master == host {
-        return Role::Master;
+        return Some(Role::Master);
     }
     if master == 0 {
         return open_role(board, host);
     }
-    if word_at(access, at + 1) == host {
-        return Role::Secondary0;
+    if item_or(access, at + 1, 0) == host {
+        return Some(Role::Secondary0);
     }
-    if word_at(access, at + 2) == host {
-        return Role::Secondary1;
+    if item_or(access, at + 2, 0) == host {
+        return Some(Role::Secondary1);
     }
-    if word_at(access, at + 3) == host {
-        return Role::Secondary2;
+    if item_or(access, at + 3, 0) == host {
+        return Some(Role::Secondary2);
     }
-    Role::None
+    None
 }

@@ -12,6 +12,7 @@ use board::{BoardMemory, ROWS, row_of};
 use wire::{byte_at, u16_at};
 
 // Puts the four words of entry `e` of a list at its processor's row. An unused one is stored nowhere.
+#[tactic(auto, using(crate::proofs::InForce::put_on))]
 fn store_entry(board: &BoardMemory, access: &mut AccessMemory, list: &[u8], e: usize)
     requires { e < entry_count }
     ensures { access.new
@@ -26,7 +27,7 @@ fn store_entry(board: &BoardMemory, access: &mut AccessMemory, list: &[u8], e: u
     if row >= ROWS {
         return;
     }
-    let at = FIRST_ENTRY + ENTRY_WORDS * (row as usize);
+    let at = FIRST_ENTRY + ENTRY_WORDS * usize::from(row);
     access[at] = u16_at(list, from + MASTER);
     access[at + 1] = u16_at(list, from + SECONDARIES);
     access[at + 2] = u16_at(list, from + SECONDARIES + 2);
@@ -40,9 +41,7 @@ pub fn put_in_force(board: &BoardMemory, access: &mut AccessMemory, list: &[u8])
 {
     *access = [0; ACCESS_WORDS];
     access[0] = 1;
-    let mut e: usize = 0;
-    while e < ENTRIES {
+    for e in 0..ENTRIES {
         store_entry(board, access, list, e);
-        e += 1;
     }
 }

@@ -4,15 +4,15 @@
 #![tactic(auto)]
 
 ghost use Rattle.std.specs.Prelude.{◌≡◌};
-ghost use Rattle.rules.specs.declared.Verdict.TheVariants.{Accepted};
+ghost use Rattle.rules.specs.Verdict.{Accepted};
 ghost use Rattle.rules.specs.Table.{first_of};
-ghost use Rattle.rules.specs.Block.{otp_table, block_verdict, reported_host};
+ghost use Rattle.rules.specs.Block.{otp_table, block_verdict};
 ghost use Rattle.board.specs.Memory.{board_in};
 
-use access_hierarchy::{HIERARCHY_BYTES, judge_hierarchy, verdict_alone};
+use access_hierarchy::{HIERARCHY_BYTES, judge_hierarchy};
 use access_list::{LIST_BYTES, MAGIC_PLACE, SIZE_PLACE, judge_list};
 use board::BoardMemory;
-use rules::{BlockReport, Verdict};
+use rules::{Fault, Verdict};
 use wire::{byte_at, u16_at};
 
 // The block, 431 bytes: the parts one behind the other after the two ABI bytes.
@@ -29,47 +29,35 @@ const OTP_MAGIC: u16 = 0x4081;
 pub const BLOCK_BYTES: usize = OTP_PLACE + OTP_BYTES;
 
 // B9 and B10; the other bytes of the OTP part are not judged.
+#[tactic(auto, unfolding(rules::specs::Block::otp_table, rules::specs::Table::first_of))]
 fn check_otp(bytes: &[u8]) -> Verdict
     ensures { result ≡ first_of Accepted (otp_table bytes.now) }
 {
     if u16_at(bytes, MAGIC_PLACE) != OTP_MAGIC {
-        return Verdict::B9;
+        return Err(Fault::B9);
     }
     if u16_at(bytes, SIZE_PLACE) != OTP_BYTES as u16 {
-        return Verdict::B10;
+        return Err(Fault::B10);
     }
-    Verdict::Accepted
+    Ok(())
 }
 
 // What a block comes to, where `listed` says whether a list or a block was accepted before, and `major` and
 // `minor` are the ABI bytes that it must have. The first fault is reported, and with B8 the loop's host.
-pub fn judge_block(
-    board: &BoardMemory,
-    listed: bool,
-    major: u8,
-    minor: u8,
-    block: &[u8],
-) -> BlockReport
-    ensures verdict_value { result.verdict ≡ block_verdict (board_in board.now) listed major minor block.now }
-    ensures host_value { result.host ≡ reported_host result.verdict block.now }
+#[tactic(auto, unfolding(rules::specs::Block::block_verdict, rules::specs::Block::block_table, rules::specs::Table::first_of))]
+pub fn judge_block(board: &BoardMemory, listed: bool, major: u8, minor: u8, block: &[u8]) -> Verdict
+    ensures { result ≡ block_verdict (board_in board.now) listed major minor block.now }
 {
     if listed {
-        return verdict_alone(Verdict::A1);
+        return Err(Fault::A1);
     }
     if block.len() != BLOCK_BYTES {
-        return verdict_alone(Verdict::B1);
+        return Err(Fault::B1);
     }
-    if (byte_at(block, 0) != major) | (byte_at(block, 1) != minor) {
-        return verdict_alone(Verdict::B2);
+    if byte_at(block, 0) != major || byte_at(block, 1) != minor {
+        return Err(Fault::B2);
     }
-    match judge_list(board, false, &block[LIST_PLACE..HIERARCHY_PLACE]) {
-        Verdict::Accepted => {}
-        fault => return verdict_alone(fault),
-    }
-    let found = judge_hierarchy(board, &block[HIERARCHY_PLACE..OTP_PLACE]);
-    let verdict = found.verdict;
-    match verdict {
-        Verdict::Accepted => verdict_alone(check_otp(&block[OTP_PLACE..BLOCK_BYTES])),
-        _ => found,
-    }
+    judge_list(board, false, &block[LIST_PLACE..HIERARCHY_PLACE])?;
+    judge_hierarchy(board, &block[HIERARCHY_PLACE..OTP_PLACE])?;
+    check_otp(&block[OTP_PLACE..BLOCK_BYTES])
 }

@@ -1,23 +1,26 @@
 -- Laws of a hierarchy: what one pair comes to, what is left after it, and what the lines behind the pairs come to.
 use Prim.Native.Nat.{ℕ, ◌+◌, ◌*◌, ◌<◌}
-use mathlib.Core.Path.{◌≡◌, refl, sym, ap, ◌∙◌}
-use mathlib.Core.Bool.{Bool, true, cond, not}
+use mathlib.Core.Path.{◌≡◌, sym, ap, ◌∙◌}
+use mathlib.Core.Bool.{Bool, true, false, cond, not}
 use mathlib.Core.List.{List, [], ◌∷◌, ◌++◌}
+use mathlib.Core.Logic.{⊎_elim}
 use native.Mathlib.Omega.{arith}
 use lib.Dec.{eqb}
 use borrow.Author.Tests.{ne_eqb}
-use Rattle.rules.specs.declared.Verdict.{Verdict}
-use Rattle.rules.specs.declared.Verdict.TheVariants.{Accepted, B3, B4, B5, B6, B7, B8}
+use Rattle.std.specs.Prelude.{Err, Option, None, Some}
+use Rattle.rules.specs.declared.Fault.{Fault}
+use Rattle.rules.specs.declared.Fault.TheVariants.{B3, B4, B5, B6, B7, B8}
 use Rattle.rules.specs.Table.{Line, ◌gives◌, first_of}
 use Rattle.rules.specs.Bytes.{byte_at}
-use Rattle.rules.specs.Verdict.{accepted}
+use Rattle.rules.specs.Verdict.{Verdict, Accepted, accepted}
 use Rattle.rules.specs.Board.{Board, board_host}
 use Rattle.rules.specs.Substructure.{head_size, entry_count, magic_in, size_in, part_at, in_turn}
-use Rattle.rules.specs.Hierarchy.{hierarchy_size, pair_size, pairs, host_in, supervisor_in, loop_host, pair_table, hierarchy_table, loop_reported}
-use Rattle.rules.proofs.Tests.{cond-false, first_of-append, none_good, none_not}
+use Rattle.rules.specs.Hierarchy.{hierarchy_size, pair_size, pairs, host_in, supervisor_in, loop_host, pair_table, hierarchy_table}
+use Rattle.rules.proofs.Tests.{decide, first_of-append}
 use Rattle.rules.proofs.Parts.{part-byte, number_read}
-use Rattle.rules.proofs.Blocks.{pair_none, pairs-none, refused_number, is_B8, B8-number}
+use Rattle.rules.proofs.Blocks.{pair_none, pairs-none, refused_number}
 use Rattle.access_list.specs.Entries.{parts_before, number_before}
+use Rattle.access_hierarchy.specs.Supervisors.{loop_found}
 use Rattle.access_list.proofs.Substructure.{past_head, fault-stops, good_falls, number_named, verdict_from, from_entry}
 
 -- ---- one pair
@@ -38,7 +41,7 @@ module _ (b : Board) (bytes : List ℕ) (e : ℕ) {host : ℕ} (at : host ≡ by
 
   -- the three lines of a used one, by its supervisor and what the code asks of the two
   pub used_pair : {s : ℕ} {x y n : Bool} → (host ≡ 0 → ⊥) → s ≡ byte_at bytes (head_size + pair_size * e + 1) → x ≡ board_host b host → y ≡ board_host b s
-      → n ≡ number_before pair_size bytes e host → first_of Accepted (pair_lines b bytes e) ≡ cond (not x) B5 (cond (not y) B6 (cond n B7 Accepted))
+      → n ≡ number_before pair_size bytes e host → first_of Accepted (pair_lines b bytes e) ≡ cond (not x) (Err B5) (cond (not y) (Err B6) (cond n (Err B7) Accepted))
   unfolding first_of pair_table
   used_pair some read one other before =
       let supervisor-is : supervisor_in (part_at pair_size bytes e) ≡ _ = part-byte pair_size bytes e 1 (omega arith) ∙ sym read in
@@ -52,7 +55,7 @@ left-from b bytes e = verdict_from (pair_table b) pair_size bytes e
 
 module _ (b : Board) (bytes : List ℕ) (e : ℕ) {fault : Verdict} (h : e < entry_count)
     (judged : fault ≡ first_of Accepted (pair_lines b bytes e)) where
-  pub turn-bad : (fault ≡ Accepted → ⊥) → left-from b bytes e ≡ fault
+  pub turn-bad : {x : Fault} → fault ≡ Err x → left-from b bytes e ≡ Err x
   turn-bad bad = from_entry (pair_table b) pair_size bytes e h ∙ fault-stops _ _ judged bad
 
   pub turn-good : fault ≡ Accepted → left-from b bytes e ≡ left-from b bytes (e + 1)
@@ -62,15 +65,16 @@ module _ (b : Board) (bytes : List ℕ) (e : ℕ) {fault : Verdict} (h : e < ent
 
 -- ---- the whole hierarchy
 
--- what is no B8 reports no host
-pub not_B8 : (bytes : List ℕ) (lines : List (Line Verdict)) {v : Verdict} → v ≡ first_of Accepted lines → none_good is_B8 lines ≡ true → loop_reported v bytes ≡ 0
-unfolding loop_reported
-not_B8 bytes lines judged none = cond-false _ 0 (ap is_B8 judged ∙ none_not is_B8 Accepted lines none refl)
+-- what a loop comes to, by its host
+abbrev pub of_loop : Option ℕ → Verdict
+of_loop None = Accepted
+of_loop (Some host) = Err (B8 host)
 
--- a report of a verdict that reports no host
-pub alone-told : {r v : Verdict} {host : ℕ} (bytes : List ℕ) {told : Verdict} → r ≡ v → host ≡ 0 → told ≡ v → loop_reported v bytes ≡ 0
-    → (r ≡ told) × (host ≡ loop_reported r bytes)
-alone-told bytes is none told silent = (is ∙ sym told, none ∙ sym (ap (λ (v : Verdict). loop_reported v bytes) is ∙ silent))
+loop_told : (entries : List (List ℕ))
+    → of_loop (loop_found entries) ≡ cond (not (eqb (loop_host entries) 0)) (Err (B8 (loop_host entries))) Accepted
+unfolding loop_found
+loop_told entries =
+    ⊎_elim (λ (t : eqb (loop_host entries) 0 ≡ true). rw t) (λ (f : eqb (loop_host entries) 0 ≡ false). rw f) (decide (eqb (loop_host entries) 0))
 
 module _ (b : Board) (bytes : List ℕ) where
   abbrev pub whole : Verdict
@@ -80,7 +84,7 @@ module _ (b : Board) (bytes : List ℕ) where
   turns = in_turn (pair_table b) [] (pairs bytes)
 
   abbrev loop_line : List (Line Verdict)
-  loop_line = (not (eqb (loop_host (pairs bytes)) 0) gives B8) ∷ []
+  loop_line = (not (eqb (loop_host (pairs bytes)) 0) gives Err (B8 (loop_host (pairs bytes)))) ∷ []
 
   -- behind the magic and the size the pairs decide, and then the loop
   module _ {magic size : ℕ} {fault : Verdict} (first : magic ≡ magic_in bytes) (good : magic ≡ 0x8D27) (second : size ≡ size_in bytes)
@@ -88,16 +92,15 @@ module _ (b : Board) (bytes : List ℕ) where
     past_header : whole ≡ first_of (first_of Accepted loop_line) turns
     unfolding hierarchy_table
     past_header =
-        past_head 0x8D27 B3 hierarchy_size B4 bytes (turns ++ loop_line) first good second right
+        past_head 0x8D27 (Err B3) hierarchy_size (Err B4) bytes (turns ++ loop_line) first good second right
         ∙ first_of-append Accepted turns loop_line
 
-    pub pairs-bad : (fault ≡ Accepted → ⊥) → (whole ≡ fault) × (loop_reported fault bytes ≡ 0)
-    pairs-bad bad =
-        (past_header ∙ fault-stops _ turns judged bad, not_B8 bytes turns judged (pairs-none is_B8 B8-number b [] (pairs bytes)))
+    pub pairs-bad : {x : Fault} → fault ≡ Err x → whole ≡ Err x
+    pairs-bad bad = past_header ∙ fault-stops _ turns judged bad
 
-    pub loop-decides : {host : ℕ} → fault ≡ Accepted → host ≡ loop_host (pairs bytes) → whole ≡ cond (not (eqb host 0)) B8 Accepted
+    pub loop-decides : {found : Option ℕ} → fault ≡ Accepted → found ≡ loop_found (pairs bytes) → whole ≡ of_loop found
     unfolding first_of
-    loop-decides none found =
+    loop-decides none is =
         past_header
         ∙ good_falls _ turns judged (pairs-none accepted refused_number b [] (pairs bytes)) none
-        ∙ ap (λ (h : ℕ). cond (not (eqb h 0)) B8 Accepted) (sym found)
+        ∙ sym (ap of_loop is ∙ loop_told (pairs bytes))

@@ -1,22 +1,28 @@
 -- Laws of the table of supervisors: what one entry more leaves in it, and that following it is following the entries.
-use Prim.Native.Nat.{ℕ, zero, suc, ◌+◌, ◌*◌, ◌-◌, ◌<◌}
+use Prim.Native.Nat.{ℕ, zero, suc, ◌+◌, ◌*◌, ◌-◌, ◌<◌, ◌≤◌}
 use mathlib.Core.Path.{◌≡◌, refl, sym, ◌∙◌, ap, subst}
-use mathlib.Core.Bool.{Bool, true, false, not, ◌&&◌, ◌||◌}
-use mathlib.Core.List.{List, [], ◌∷◌}
+use mathlib.Core.Bool.{Bool, true, false, cond, not, ◌&&◌, ◌||◌}
+use mathlib.Core.List.{List, [], ◌∷◌, map}
 use mathlib.Core.Logic.{⊎_elim}
 use native.Mathlib.Nat.{zero-add}
 use native.Mathlib.Omega.{arith}
-use lib.ListN.{get_or, set, replicate}
+use native.Mathlib.Numerals.{add-one}
+use lib.ListN.{length, get_or, set, replicate}
 use lib.Dec.{eqb}
+use Rattle.std.specs.Prelude.{Option, None, Some}
+use Rattle.std.specs.Option.{MatchOption}
+use Rattle.std.specs.List.{range_with_len, AllWithin, HoldsAt}
+use Rattle.std.proofs.lemmas.List.FromFn.{get_or-map-range_with_len}
 use borrow.Author.Tests.{eq-eqb, ne_eqb}
 use Rattle.rules.specs.Table.{table_of}
 use Rattle.rules.specs.Bytes.{byte_at}
 use Rattle.rules.specs.Substructure.{head_size, entry_count, part_at, parts_of, parts_from, names}
-use Rattle.rules.specs.Hierarchy.{pair_size, pairs, host_in, supervisor_in, supervisor_of, meets, on_loop, first_host}
-use Rattle.rules.proofs.Tests.{decide, cond-true, cond-false}
+use Rattle.rules.specs.Hierarchy.{pair_size, pairs, host_in, supervisor_in, supervisor_of, meets, on_loop, first_host, loop_host}
+use Rattle.rules.proofs.Tests.{decide, clash, cond-true, cond-false}
+use Rattle.rules.proofs.Climbs.{meets-some}
 use Rattle.rules.proofs.Tables.{table_here, table_below, table_set}
 use Rattle.rules.proofs.Parts.{parts-length, parts-step, part-byte, number_read, parts_next}
-use Rattle.access_hierarchy.specs.Supervisors.{host_count, supervisors_in, read_from}
+use Rattle.access_hierarchy.specs.Supervisors.{host_count, supervisors_in, read_from, loop_found}
 
 -- ---- filled
 
@@ -133,20 +139,59 @@ on_loop_is {table} {host} bytes i small filled at told =
 
 -- ---- the hosts in turn
 
-module _ (bytes : List ℕ) (e : ℕ) {host : ℕ} (h : e < entry_count) (at : host ≡ byte_at bytes (head_size + pair_size * e)) where
-  abbrev pub first_from : ℕ → ℕ
-  first_from k = first_host (on_loop (pairs bytes)) (parts_from pair_size bytes k (entry_count - k))
+-- what the code asks of a host, by its table
+abbrev pub told_on : List ℕ → ℕ → Bool
+told_on table host = meets (read_from table) host entry_count (read_from table host)
 
-  split : first_from e ≡ first_host (on_loop (pairs bytes)) (part_at pair_size bytes e ∷ parts_from pair_size bytes (e + 1) (entry_count - (e + 1)))
-  split = ap (first_host (on_loop (pairs bytes))) (parts_next pair_size bytes e h)
+module _ (bytes : List ℕ) where
+  abbrev pub host_at : ℕ → ℕ
+  host_at e = byte_at bytes (head_size + pair_size * e)
 
-  named_is : host_in (part_at pair_size bytes e) ≡ host
-  named_is = number_read pair_size bytes e (omega arith) at
+  abbrev pub hosts : List ℕ
+  hosts = map host_at (range_with_len 0 entry_count)
 
-  pub host_found : on_loop (pairs bytes) host ≡ true → first_from e ≡ host
+  abbrev first_from : ℕ → ℕ
+  first_from e = first_host (on_loop (pairs bytes)) (parts_from pair_size bytes e (entry_count - e))
+
+  from_host : (e : ℕ) → e < entry_count → first_from e ≡ cond (on_loop (pairs bytes) (host_at e)) (host_at e) (first_from (suc e))
   unfolding first_host
-  host_found on = split ∙ cond-true _ _ (ap (on_loop (pairs bytes)) named_is ∙ on) ∙ named_is
+  from_host e h =
+      let named : host_in (part_at pair_size bytes e) ≡ host_at e = number_read pair_size bytes e (omega arith) refl in
+      ap (first_host (on_loop (pairs bytes))) (parts_next pair_size bytes e h)
+      ∙ ap (λ (x : ℕ). cond (on_loop (pairs bytes) x) x (first_from (e + 1))) named
+      ∙ ap (λ (n : ℕ). cond (on_loop (pairs bytes) (host_at e)) (host_at e) (first_from n)) (add-one e)
 
-  pub host_passed : on_loop (pairs bytes) host ≡ false → first_from e ≡ first_from (e + 1)
-  unfolding first_host
-  host_passed off = split ∙ cond-false _ _ (ap (on_loop (pairs bytes)) named_is ∙ off)
+  -- where none of those before entry e lies on a loop
+  passed : (e : ℕ) → e ≤ entry_count → ((k : ℕ) → k < e → on_loop (pairs bytes) (host_at k) ≡ false) → loop_host (pairs bytes) ≡ first_from e
+  unfolding loop_host
+  passed zero h none = refl
+  passed (suc e) h none =
+      passed e (omega arith) (λ k before. none k (omega arith)) ∙ from_host e (omega arith)
+      ∙ cond-false (host_at e) (first_from (suc e)) (none e (omega arith))
+
+  module _ {table : List ℕ} (small : (k : ℕ) → get_or bytes k 0 < host_count) (filled : table ≡ supervisors_in bytes) where
+    told_is : (e : ℕ) → on_loop (pairs bytes) (host_at e) ≡ told_on table (host_at e)
+    told_is e = sym (on_loop_is bytes (head_size + pair_size * e) small filled refl refl)
+
+    there : (e : ℕ) → e < entry_count → get_or hosts e 0 ≡ host_at e
+    there e h = get_or-map-range_with_len host_at 0 entry_count e e 0 h (zero-add e)
+
+    off : (e : ℕ) → AllWithin (λ x. told_on table x ≡ false) hosts 0 e → e ≤ entry_count → loop_host (pairs bytes) ≡ first_from e
+    off e none h =
+        passed e h (λ k before. told_is k ∙ subst (λ (x : ℕ). told_on table x ≡ false) (there k (omega arith)) (none k 0 (omega arith) before))
+
+    -- so the first that it finds is the host
+    pub found_is : (r : Option ℕ)
+        → MatchOption r (AllWithin (λ x. told_on table x ≡ false) hosts 0 (length hosts))
+        (λ x. (told_on table x ≡ true) × (e : ℕ) × (e < length hosts) × HoldsAt (λ y. y ≡ x) hosts e × AllWithin (λ x. told_on table x ≡ false) hosts 0 e)
+        → r ≡ loop_found (pairs bytes)
+    unfolding loop_found first_host parts_of
+    found_is None none = let first : loop_host (pairs bytes) ≡ 0 = off entry_count none (omega arith) in rw first
+    found_is (Some x) (on, e, inside, here, none) =
+        let is : host_at e ≡ x = sym (there e inside) ∙ here 0 in
+        let first : loop_host (pairs bytes) ≡ x =
+        off e none (omega (arith, inside)) ∙ from_host e inside
+        ∙ cond-true (host_at e) (first_from (suc e)) (told_is e ∙ subst (λ (y : ℕ). told_on table y ≡ true) (sym is) on) ∙ is in
+        let some : x ≡ 0 → ⊥ = λ zero.
+        clash on (ap (λ (h : ℕ). meets (read_from table) h entry_count (read_from table x)) zero ∙ meets-some (read_from table) entry_count (read_from table x)) in
+        rw (first, ne_eqb x 0 some)

@@ -5,17 +5,17 @@
 mod loops;
 
 ghost use Rattle.std.specs.Prelude.{◌<◌, ◌≡◌, []};
-ghost use Rattle.rules.specs.declared.Verdict.TheVariants.{Accepted};
+ghost use Rattle.rules.specs.Verdict.{Accepted};
 ghost use Rattle.rules.specs.Table.{first_of};
 ghost use Rattle.rules.specs.Substructure.{entry_count, part_at, in_turn};
-ghost use Rattle.rules.specs.Hierarchy.{pair_size, pairs, pair_table, hierarchy_table, loop_reported};
+ghost use Rattle.rules.specs.Hierarchy.{pair_size, pairs, pair_table, hierarchy_table};
 ghost use Rattle.board.specs.Memory.{board_in};
 ghost use Rattle.access_list.specs.Entries.{parts_before};
 
 use crate::loops::loop_host;
 use access_list::{ENTRIES, HEAD_BYTES, MAGIC_PLACE, SIZE_PLACE, named_before};
 use board::{BoardMemory, is_host};
-use rules::{BlockReport, Verdict};
+use rules::{Fault, Verdict};
 use wire::{byte_at, u16_at};
 
 // The hierarchy, and one pair of it: a host, and behind it the supervisor.
@@ -25,16 +25,9 @@ const HIERARCHY_MAGIC: u16 = 0x8D27;
 
 const PAIR_BYTES: usize = 2;
 
-// A verdict that reports no host.
-pub fn verdict_alone(verdict: Verdict) -> BlockReport
-    ensures verdict_value { result.verdict ≡ verdict }
-    ensures host_value { result.host ≡ 0 }
-{
-    BlockReport { verdict, host: 0 }
-}
-
 // B5 to B7 of entry `e`, after the entries before it. Supervisor 0 is a board host. Of an unused entry the
 // supervisor is not looked at.
+#[tactic(auto, using(crate::proofs::Faults::unused_pair, crate::proofs::Faults::used_pair))]
 fn check_pair(board: &BoardMemory, bytes: &[u8], e: usize) -> Verdict
     requires { e < entry_count }
     ensures { result
@@ -44,56 +37,44 @@ fn check_pair(board: &BoardMemory, bytes: &[u8], e: usize) -> Verdict
     let at = HEAD_BYTES + PAIR_BYTES * e;
     let host = byte_at(bytes, at);
     if host == 0 {
-        return Verdict::Accepted;
+        return Ok(());
     }
     if !is_host(board, host as u16) {
-        return Verdict::B5;
+        return Err(Fault::B5);
     }
     if !is_host(board, byte_at(bytes, at + 1) as u16) {
-        return Verdict::B6;
+        return Err(Fault::B6);
     }
     if named_before(bytes, PAIR_BYTES as u8, e as u8, host) {
-        return Verdict::B7;
+        return Err(Fault::B7);
     }
-    Verdict::Accepted
+    Ok(())
 }
 
 // B5 to B7 of each entry in turn.
 fn check_pairs(board: &BoardMemory, bytes: &[u8]) -> Verdict
     ensures { result ≡ first_of Accepted (in_turn (pair_table (board_in board.now)) [] (pairs bytes.now)) }
 {
-    let mut e: usize = 0;
-    while e < ENTRIES {
-        match check_pair(board, bytes, e) {
-            Verdict::Accepted => {}
-            fault => return fault,
-        }
-        e += 1;
+    for e in 0..ENTRIES {
+        check_pair(board, bytes, e)?;
     }
-    Verdict::Accepted
+    Ok(())
 }
 
 // What a hierarchy comes to: the first fault, with B8 the first host in entry order that lies on a loop.
-pub fn judge_hierarchy(board: &BoardMemory, bytes: &[u8]) -> BlockReport
-    ensures verdict_value { result.verdict ≡ first_of Accepted (hierarchy_table (board_in board.now) bytes.now) }
-    ensures host_value { result.host ≡ loop_reported result.verdict bytes.now }
+#[tactic(auto, unfolding(rules::specs::Hierarchy::hierarchy_table, rules::specs::Table::first_of))]
+pub fn judge_hierarchy(board: &BoardMemory, bytes: &[u8]) -> Verdict
+    ensures { result ≡ first_of Accepted (hierarchy_table (board_in board.now) bytes.now) }
 {
     if u16_at(bytes, MAGIC_PLACE) != HIERARCHY_MAGIC {
-        return verdict_alone(Verdict::B3);
+        return Err(Fault::B3);
     }
     if u16_at(bytes, SIZE_PLACE) != HIERARCHY_BYTES as u16 {
-        return verdict_alone(Verdict::B4);
+        return Err(Fault::B4);
     }
-    match check_pairs(board, bytes) {
-        Verdict::Accepted => {}
-        fault => return verdict_alone(fault),
-    }
-    let found = loop_host(bytes);
-    if found == 0 {
-        return verdict_alone(Verdict::Accepted);
-    }
-    BlockReport {
-        verdict: Verdict::B8,
-        host: found,
+    check_pairs(board, bytes)?;
+    match loop_host(bytes) {
+        Some(host) => Err(Fault::B8(host)),
+        None => Ok(()),
     }
 }

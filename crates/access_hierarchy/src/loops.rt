@@ -3,8 +3,8 @@
 // read, and no hierarchy takes more than 32 times 32 of them.
 ghost use Rattle.std.specs.Prelude.{◌≡◌, replicate};
 ghost use Rattle.rules.specs.Substructure.{entry_count};
-ghost use Rattle.rules.specs.Hierarchy.{pairs, loop_host, meets};
-ghost use Rattle.access_hierarchy.specs.Supervisors.{host_count, supervisors_in, read_from};
+ghost use Rattle.rules.specs.Hierarchy.{pairs, meets};
+ghost use Rattle.access_hierarchy.specs.Supervisors.{host_count, supervisors_in, read_from, loop_found};
 
 use crate::PAIR_BYTES;
 use access_list::{ENTRIES, HEAD_BYTES};
@@ -19,9 +19,7 @@ fn fill(above: &mut [u8; HOSTS], bytes: &[u8])
     requires { above.old ≡ replicate host_count 0 }
     ensures { above.new ≡ supervisors_in bytes.now }
 {
-    let mut e: usize = ENTRIES;
-    while e > 0 {
-        e -= 1;
+    for e in (0..ENTRIES).rev() {
         let at = HEAD_BYTES + PAIR_BYTES * e;
         let host = byte_at(bytes, at);
         if host != 0 {
@@ -34,35 +32,26 @@ fn fill(above: &mut [u8; HOSTS], bytes: &[u8])
 fn on_loop(above: &[u8; HOSTS], host: u8) -> bool
     ensures { result ≡ meets (read_from above.now) host entry_count (read_from above.now host) }
 {
-    let table = &above[..];
-    let mut x = table[host as usize];
-    let mut left = ENTRIES;
-    while left > 0 {
+    let mut x = above[host as usize];
+    for _ in 0..ENTRIES {
         if x == 0 {
             return false;
         }
         if x == host {
             return true;
         }
-        x = table[x as usize];
-        left -= 1;
+        x = above[x as usize];
     }
     false
 }
 
-// The first host in entry order that lies on a loop, and 0 where none does.
-pub(crate) fn loop_host(bytes: &[u8]) -> u8
-    ensures { result ≡ loop_host (pairs bytes.now) }
+// The first host in entry order that lies on a loop.
+pub(crate) fn loop_host(bytes: &[u8]) -> Option<u8>
+    ensures { result ≡ loop_found (pairs bytes.now) }
 {
     let mut above = [0u8; HOSTS];
     fill(&mut above, bytes);
-    let mut e: usize = 0;
-    while e < ENTRIES {
-        let host = byte_at(bytes, HEAD_BYTES + PAIR_BYTES * e);
-        if on_loop(&above, host) {
-            return host;
-        }
-        e += 1;
-    }
-    0
+    (0..ENTRIES)
+        .map(|e| byte_at(bytes, HEAD_BYTES + PAIR_BYTES * e))
+        .find(|host| on_loop(&above, *host))
 }

@@ -1,42 +1,31 @@
--- Laws of the judge of a list: what the code's tests say of A5 and A7, what one entry comes to, and what is left after it.
-use Prim.Native.Nat.{ℕ, zero, suc, ◌+◌, ◌*◌, ◌<◌, ◌≤◌}
+-- Laws of the judge of a list: what the code asks of a secondary, what one entry comes to, and what is left after it.
+use Prim.Native.Nat.{ℕ, zero, suc, ◌+◌, ◌*◌, ◌<◌}
 use native.Mathlib.Omega.{arith}
-use mathlib.Core.Path.{◌≡◌, refl, sym, ap, subst, ◌∙◌}
+use mathlib.Core.Path.{◌≡◌, refl, sym, ap, ◌∙◌}
 use mathlib.Core.Bool.{Bool, true, false, cond, not, ◌||◌}
 use mathlib.Core.List.{List}
 use lib.ListN.{length, drop}
-use borrow.Author.Tests.{le-ltb, lt-ltb, eq-eqb, ne_eqb}
-use Rattle.rules.specs.declared.Verdict.{Verdict}
-use Rattle.rules.specs.declared.Verdict.TheVariants.{Accepted, A1, A2, A5, A6, A7, A8}
+use borrow.Author.Tests.{eq-eqb, ne_eqb}
+use Rattle.std.specs.Prelude.{Err}
+use Rattle.rules.specs.declared.Fault.{Fault}
+use Rattle.rules.specs.declared.Fault.TheVariants.{A1, A2, A5, A6, A7, A8}
 use Rattle.rules.specs.Table.{first_of, any_of}
 use Rattle.rules.specs.Bytes.{u16_at}
-use Rattle.rules.specs.Verdict.{accepted}
-use Rattle.rules.specs.Board.{Board, board_host, active_host, rows, row_of, on_board}
+use Rattle.rules.specs.Verdict.{Verdict, Accepted, accepted}
+use Rattle.rules.specs.Board.{Board, board_host, active_host, on_board}
 use Rattle.rules.specs.Substructure.{entry_count, part_at, named_in}
 use Rattle.rules.specs.AccessList.{list_size, entry_size, processor_in, master_in, secondaries_in, bad_secondary, entry_table, content_table, list_table, verdict_of}
-use Rattle.rules.proofs.Tests.{cond-true, cond-false, skipped}
-use Rattle.rules.proofs.Verdicts.{not_accepted}
+use Rattle.rules.proofs.Tests.{skipped}
 use Rattle.access_list.specs.Entries.{parts_before, number_before, entry_fault}
 use Rattle.access_list.proofs.Substructure.{number_named, verdict_from, from_entry}
 
 -- A1 and A2 are passed
 pub past_length : (b : Board) (listed : Bool) (list : List ℕ) → listed ≡ false → length list ≡ list_size → verdict_of b listed list ≡ first_of Accepted (content_table b list)
 unfolding verdict_of list_table
-past_length b listed list first size = skipped Accepted A1 _ first ∙ skipped Accepted A2 _ (ap not (eq-eqb (length list) list_size size))
+past_length b listed list first size = skipped Accepted (Err A1) _ first ∙ skipped Accepted (Err A2) _ (ap not (eq-eqb (length list) list_size size))
 
 module _ (b : Board) where
-  -- ---- what the code's tests say
-
-  -- of a processor p, read as q
-  pub off_board_lem : {p q row : ℕ} → row ≡ row_of b q → q ≡ p → rows ≤ row → on_board b p ≡ false
-  unfolding on_board
-  off_board_lem {p} at same h = le-ltb (row_of b p) rows (subst (λ (r : ℕ). rows ≤ r) (at ∙ ap (row_of b) same) h)
-
-  pub on_board_lem : {p q row : ℕ} → row ≡ row_of b q → q ≡ p → row < rows → on_board b p ≡ true
-  unfolding on_board
-  on_board_lem {p} at same h = lt-ltb (row_of b p) rows (subst (λ (r : ℕ). r < rows) (at ∙ ap (row_of b) same) h)
-
-  -- of a host s, read as h
+  -- what the code's test says of a host s, read as h
   pub host_test : (test : Board → ℕ → Bool) {h s : ℕ} {r t : Bool} → r ≡ test b h → h ≡ s → not r ≡ t → not (test b s) ≡ t
   host_test test is same told = ap not (sym (ap (test b) same) ∙ sym is) ∙ told
 
@@ -70,8 +59,8 @@ module _ (b : Board) where
 
 -- a fault among A5 to A7 comes before what follows them
 faults_first : (off named alien : Bool) (rest : Verdict)
-    → cond off A5 (cond named A6 (cond alien A7 rest))
-    ≡ cond (accepted (cond off A5 (cond named A6 (cond alien A7 Accepted)))) rest (cond off A5 (cond named A6 (cond alien A7 Accepted)))
+    → cond off (Err A5) (cond named (Err A6) (cond alien (Err A7) rest))
+    ≡ cond (accepted (cond off (Err A5) (cond named (Err A6) (cond alien (Err A7) Accepted)))) rest (cond off (Err A5) (cond named (Err A6) (cond alien (Err A7) Accepted)))
 unfolding accepted
 faults_first true named alien rest = refl
 faults_first false true alien rest = refl
@@ -105,18 +94,19 @@ module _ (b : Board) (list : List ℕ) (e : ℕ) {part : List ℕ} {p : ℕ} (h 
         let same = number_is in cc
 
     -- A5 to A7 come first, then A8 and the entries below
-    decides : left-from b list e ≡ cond (accepted fault) (cond (bad_from b part 0) A8 (left-from b list (e + 1))) fault
+    decides : left-from b list e ≡ cond (accepted fault) (cond (bad_from b part 0) (Err A8) (left-from b list (e + 1))) fault
     unfolding first_of entry_table entry_fault bad_from
     decides =
         let own = part_at entry_size list e in
         from_entry (entry_table b) entry_size list e h
         ∙ rw (ne_eqb (processor_in own) 0 (λ none. some (number_is ∙ none)), whole, is)
         (faults_first (not (on_board b (processor_in own))) (named_in (parts_before entry_size list e) (processor_in own)) (not (active_host b (master_in own)))
-        (cond (any_of (bad_secondary b) (secondaries_in own)) A8 (left-from b list (e + 1))))
+        (cond (any_of (bad_secondary b) (secondaries_in own)) (Err A8) (left-from b list (e + 1))))
 
-    pub turn-bad : (fault ≡ Accepted → ⊥) → left-from b list e ≡ fault
-    turn-bad bad = decides ∙ cond-false _ fault (not_accepted fault bad)
-
-    pub turn-good : fault ≡ Accepted → left-from b list e ≡ cond (bad_from b part 0) A8 (left-from b list (e + 1))
+    pub turn-bad : {x : Fault} → fault ≡ Err x → left-from b list e ≡ Err x
     unfolding accepted
-    turn-good good = decides ∙ cond-true _ fault (ap accepted good)
+    turn-bad bad = decides ∙ rw bad
+
+    pub turn-good : fault ≡ Accepted → left-from b list e ≡ cond (bad_from b part 0) (Err A8) (left-from b list (e + 1))
+    unfolding accepted
+    turn-good good = decides ∙ rw good

@@ -1,8 +1,8 @@
 -- One entry of a substructure, after those before it: the numbers that the entries before have, and of an access list document 01's A5 to A7. An
 -- entry is a part of the bytes, as rules/specs/Substructure.antt cuts it.
-use Rattle.std.specs.Prelude.{ℕ, zero, suc, ◌+◌, ◌*◌, Bool, false, not, ◌||◌, List, [], ◌∷◌, eqb}
-use Rattle.rules.specs.declared.Verdict.{Verdict}
-use Rattle.rules.specs.declared.Verdict.TheVariants.{Accepted, A5, A6, A7}
+use Rattle.std.specs.Prelude.{ℕ, zero, suc, ◌+◌, ◌*◌, Bool, false, not, ◌||◌, List, [], ◌∷◌, eqb, Err}
+use Rattle.rules.specs.Verdict.{Verdict, Accepted}
+use Rattle.rules.specs.declared.Fault.TheVariants.{A5, A6, A7}
 use Rattle.rules.specs.Table.{◌gives◌, first_of}
 use Rattle.rules.specs.Bytes.{byte_at}
 use Rattle.rules.specs.Board.{Board, active_host, on_board}
@@ -23,4 +23,4 @@ number_before width bytes (suc e) n = eqb (byte_at bytes (head_size + width * e)
 unfoldable pub entry_fault : Board → Bool → List ℕ → Verdict
 entry_fault b named part =
     first_of Accepted
-    ((not (on_board b (processor_in part)) gives A5) ∷ (named gives A6) ∷ (not (active_host b (master_in part)) gives A7) ∷ [])
+    ((not (on_board b (processor_in part)) gives Err A5) ∷ (named gives Err A6) ∷ (not (active_host b (master_in part)) gives Err A7) ∷ [])

@@ -11,7 +11,7 @@ ghost use Rattle.rules.specs.AccessList.{verdict_of};
 use crate::entry::check_entry;
 use board::{BoardMemory, is_host};
 pub use entry::named_before;
-use rules::Verdict;
+use rules::{Fault, Verdict};
 use wire::{byte_at, u16_at};
 
 // What every substructure of a block has: a magic and its size in bytes at these places, and behind them
@@ -38,27 +38,31 @@ pub const MASTER: usize = 1;
 
 pub const SECONDARIES: usize = 3;
 
+const SECONDARY_COUNT: usize = 3;
+
 // What a list comes to, where `listed` says whether a list or a block was accepted before. The first
 // fault is reported: the search stops at the first bad secondary of the first bad entry.
+#[tactic(auto, unfolding(rules::specs::AccessList::verdict_of, rules::specs::AccessList::list_table, rules::specs::AccessList::content_table, rules::specs::Table::first_of))]
 pub fn judge_list(board: &BoardMemory, listed: bool, list: &[u8]) -> Verdict
     ensures { result ≡ verdict_of (board_in board.now) listed list.now }
 {
     if listed {
-        return Verdict::A1;
+        return Err(Fault::A1);
     }
     if list.len() != LIST_BYTES {
-        return Verdict::A2;
+        return Err(Fault::A2);
     }
     if u16_at(list, MAGIC_PLACE) != LIST_MAGIC {
-        return Verdict::A3;
+        return Err(Fault::A3);
     }
     if u16_at(list, SIZE_PLACE) != LIST_BYTES as u16 {
-        return Verdict::A4;
+        return Err(Fault::A4);
     }
+    // Not a `for`, which cannot carry the refusal that `break` leaves this one with.
     let mut e: usize = 0;
     'entries: loop {
         if e == ENTRIES {
-            break 'entries Verdict::Accepted;
+            break 'entries Ok(());
         }
         let part = &list[HEAD_BYTES + ENTRY_BYTES * e..HEAD_BYTES + ENTRY_BYTES * e + ENTRY_BYTES];
         let processor = byte_at(part, PROCESSOR);
@@ -67,16 +71,11 @@ pub fn judge_list(board: &BoardMemory, listed: bool, list: &[u8]) -> Verdict
             continue 'entries;
         }
         let named = named_before(list, ENTRY_BYTES as u8, e as u8, processor);
-        match check_entry(board, part, named) {
-            Verdict::Accepted => {}
-            fault => break 'entries fault,
-        }
-        let mut k: usize = 0;
-        while k < 3 {
+        check_entry(board, part, named)?;
+        for k in 0..SECONDARY_COUNT {
             if !is_host(board, u16_at(part, SECONDARIES + 2 * k)) {
-                break 'entries Verdict::A8;
+                break 'entries Err(Fault::A8);
             }
-            k += 1;
         }
         e += 1;
     }

@@ -4,7 +4,7 @@
 #![tactic(auto)]
 
 ghost use Rattle.std.specs.Prelude.{◌≡◌};
-ghost use Rattle.rules.specs.Role.{permits, is_master, permitted};
+ghost use Rattle.rules.specs.Role.{permitted};
 ghost use Rattle.rules.specs.Outcome.{may_request, is_controller};
 ghost use Rattle.board.specs.Memory.{board_in};
 ghost use Rattle.access.specs.Memory.{entry_at};
@@ -20,45 +20,18 @@ pub fn is_controller(state: Record, host: u8) -> bool
     state.controller == host as u32
 }
 
-// Whether a role permits: every one but none.
-fn permits(role: Role) -> bool
-    ensures { result ≡ permits role }
-{
-    match role {
-        Role::None => false,
-        Role::Master => true,
-        Role::Secondary0 => true,
-        Role::Secondary1 => true,
-        Role::Secondary2 => true,
-        Role::Open => true,
-    }
-}
-
-// Whether a role is that of the recovery master.
-fn is_master(role: Role) -> bool
-    ensures { result ≡ is_master role }
-{
-    match role {
-        Role::None => false,
-        Role::Master => true,
-        Role::Secondary0 => false,
-        Role::Secondary1 => false,
-        Role::Secondary2 => false,
-        Role::Open => false,
-    }
-}
-
 // Whether `host` is permitted for the processor at `row`.
+#[tactic(auto, unfolding(rules::specs::Role::permitted))]
 pub fn is_permitted(board: &BoardMemory, access: &[u16], row: u8, host: u16) -> bool
     ensures { result ≡ permitted (board_in board.now) (entry_at access.now row) host }
 {
-    permits(role_of(board, access, row, host))
+    role_of(board, access, row, host).is_some()
 }
 
 // Whether a host of this role may request the processor: it is free and the host permitted, or the host is
 // its recovery master, also where another controls it.
-pub fn may_request(role: Role, state: Record) -> bool
+pub fn may_request(role: Option<Role>, state: Record) -> bool
     ensures { result ≡ may_request role state }
 {
-    ((state.controller == 0) & permits(role)) | is_master(role)
+    ((state.controller == 0) & role.is_some()) | (role == Some(Role::Master))
 }

@@ -28,13 +28,14 @@ pub const ROWS: u8 = 32;
 
 // Whether `host` is on the board. Hosts of an access list have 16 bits and are compared as such: one
 // above 255 is on no board. Host 0 is on every board.
+#[tactic(auto, using(crate::proofs::Read::host_read, crate::proofs::Read::host_none), unfolding(rules::specs::Board::board_host))]
 pub fn is_host(board: &BoardMemory, host: u16) -> bool
     ensures { result ≡ board_host (board_in board.now) host }
 {
     if host == 0 {
         return true;
     }
-    let place = host as usize;
+    let place = usize::from(host);
     if place < PLACES {
         return board[place] != 0;
     }
@@ -42,6 +43,7 @@ pub fn is_host(board: &BoardMemory, host: u16) -> bool
 }
 
 // Whether `host` is on the board and not 0, the management firmware, which never sends or controls.
+#[tactic(auto, unfolding(rules::specs::Board::active_host))]
 pub fn is_active(board: &BoardMemory, host: u16) -> bool
     ensures { result ≡ active_host (board_in board.now) host }
 {
@@ -49,29 +51,32 @@ pub fn is_active(board: &BoardMemory, host: u16) -> bool
 }
 
 // The row of `processor`, or a number from `ROWS` on where it is not on the board. The only way to a row.
+#[tactic(auto, using(crate::proofs::Read::row_read))]
 pub fn row_of(board: &BoardMemory, processor: u8) -> u8
     ensures { result ≡ row_of (board_in board.now) processor }
 {
-    board[PLACES + processor as usize]
+    board[PLACES + usize::from(processor)]
 }
 
 // The class of the processor at `row`: 0 for R5, 1 for ARMv8.
+#[tactic(auto, using(crate::proofs::Read::class_read, crate::proofs::Read::class_past))]
 pub fn class_at(board: &BoardMemory, row: u8) -> usize
     ensures { result ≡ class_at (board_in board.now) row }
 {
     if row < ROWS {
-        return (board[CLASSES + row as usize] % 2) as usize;
+        return usize::from(board[CLASSES + usize::from(row)] % 2);
     }
     0
 }
 
 // The row where the control word of the processor at `row` is kept. The processors of an ARMv8 cluster
 // have one home.
+#[tactic(auto, using(crate::proofs::Read::home_read, crate::proofs::Read::home_past))]
 pub fn home_at(board: &BoardMemory, row: u8) -> u8
     ensures { (result ≡ home_at (board_in board.now) row) × (result < rows) }
 {
     if row < ROWS {
-        return board[HOMES + row as usize] % ROWS;
+        return board[HOMES + usize::from(row)] % ROWS;
     }
     0
 }

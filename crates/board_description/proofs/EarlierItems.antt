@@ -1,7 +1,7 @@
 -- Laws of what the items before an item say of it: a turn of the walk back, and where it ends.
-use Prim.Native.Nat.{ℕ, ◌+◌, ◌≤◌}
+use Prim.Native.Nat.{◌+◌, ◌≤◌}
 use native.Mathlib.Omega.{arith}
-use mathlib.Core.Path.{◌≡◌, refl, sym, ap, ap₂, ◌∙◌}
+use mathlib.Core.Path.{◌≡◌, refl, sym, ap, ◌∙◌}
 use mathlib.Core.Bool.{Bool, true, false, cond, not, ◌&&◌, ◌||◌, and-false, or-false}
 use mathlib.Core.List.{List, [], ◌∷◌, ◌++◌}
 use mathlib.Core.Logic.{⊎_elim}
@@ -9,25 +9,13 @@ use lib.ListN.{length, length-append}
 use lib.Dec.{eqb}
 use Rattle.rules.specs.declared.Item.{Item}
 use Rattle.rules.specs.Table.{any_of}
-use Rattle.rules.specs.Description.{Description, nothing_listed, is_host, lists_host, lists_processor, repeats, other_class, with_item}
+use Rattle.rules.specs.Description.{Description, nothing_listed, is_host, lists_host, lists_processor, repeats, other_class, with_item, with_items}
 use Rattle.rules.proofs.Tests.{decide}
-use Rattle.board_description.specs.Cursor.{item_no, listed_before}
-use Rattle.board_description.proofs.Cursors.{listed_next}
+use Rattle.board_description.proofs.Listed.{with_items-last}
 use Rattle.board_description.specs.declared.earlier.Before.{Before}
 use Rattle.board_description.specs.EarlierItems.{same_kind, mixes_classes, kind_count, before_in, noted}
 
 -- ---- a turn of the walk, as the code takes it
-
--- what the code has read is whether the earlier item mixes classes, and whether it is of the item's kind
-module _ (x y : Item) (b : Before) {mixes same : Bool} (mixed : mixes ≡ mixes_classes x y) (kind : same ≡ same_kind x y) where
-  pub note_other : same ≡ false → record { repeated = b.repeated; mixed = b.mixed || mixes; same = b.same } ≡ noted x b y
-  unfolding noted
-  note_other other = rw (sym kind, sym mixed, other)
-
-  pub note_same : same ≡ true
-      → record { repeated = b.repeated || eqb x.number y.number; mixed = b.mixed || mixes; same = b.same + 1 } ≡ noted x b y
-  unfolding noted
-  note_same one = rw (sym kind, sym mixed, one)
 
 -- at most one more is of the item's kind
 pub noted-few : (x y : Item) (b : Before) → (noted x b y).same ≤ b.same + 1
@@ -122,16 +110,16 @@ module _ (x : Item) where
   unfolding nothing_listed kind_count
   none_counted = ⊎_elim (λ (t : is_host x ≡ true). rw t) (λ (f : is_host x ≡ false). rw f) (decide (is_host x))
 
-module _ (bytes : List ℕ) (x : Item) where
+module _ (x : Item) where
   -- nothing is listed before the first
-  pub walk_start : record { repeated = false; mixed = false; same = 0 } ≡ before_in (listed_before bytes 0) x
-  unfolding before_in listed_before
-  walk_start = λ t. record { repeated = sym (none_repeated x) t; mixed = sym (none_mixed x) t; same = sym (none_counted x) t }
+  pub note_start : record { repeated = false; mixed = false; same = 0 } ≡ before_in (with_items nothing_listed []) x
+  unfolding before_in with_items
+  note_start = λ t. record { repeated = sym (none_repeated x) t; mixed = sym (none_mixed x) t; same = sym (none_counted x) t }
 
   -- a turn
-  pub walk_next : (k : ℕ) {b : Before} {y : Item} → b ≡ before_in (listed_before bytes k) x → y ≡ item_no bytes k
-      → noted x b y ≡ before_in (listed_before bytes (k + 1)) x
-  walk_next k told is =
-      ap₂ (noted x) told is
-      ∙ noted-next (listed_before bytes k) x (item_no bytes k)
-      ∙ ap (λ (d : Description). before_in d x) (sym (listed_next bytes k))
+  pub note_next : (seen : List Item) (y : Item) {b : Before} → b ≡ before_in (with_items nothing_listed seen) x
+      → noted x b y ≡ before_in (with_items nothing_listed (seen ++ (y ∷ []))) x
+  note_next seen y told =
+      ap (λ (b : Before). noted x b y) told
+      ∙ noted-next (with_items nothing_listed seen) x y
+      ∙ ap (λ (d : Description). before_in d x) (sym (with_items-last nothing_listed seen y))

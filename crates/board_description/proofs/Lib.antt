@@ -1,6 +1,5 @@
 -- What the proofs of this crate and of those above it share.
 pub mod Fields
-pub mod Cursors
+pub mod Listed
 pub mod EarlierItems
 pub mod Verdicts
-pub mod Faults

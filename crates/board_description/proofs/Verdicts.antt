@@ -1,22 +1,18 @@
--- Laws of the judge: what one item comes to, what is left after it, and how far a cursor has come.
-use Prim.Native.Nat.{ℕ, ◌+◌, ◌≤◌, ◌<◌}
-use native.Mathlib.Omega.{arith}
-use mathlib.Core.Path.{◌≡◌, refl, sym, ap, subst, subst⁻¹, ◌∙◌}
+-- Laws of the judge: what one item comes to, what is left after it, and how many have been judged.
+use Prim.Native.Nat.{ℕ, ◌+◌}
+use mathlib.Core.Path.{◌≡◌, refl, sym, ap, ◌∙◌}
 use mathlib.Core.Bool.{true, false}
-use mathlib.Core.List.{List, [], ◌∷◌}
-use lib.ListN.{length, drop, length-drop}
+use mathlib.Core.List.{List, [], ◌∷◌, ◌++◌, append-nil, append_assoc}
+use lib.ListN.{length, length-append}
 use lib.Dec.{eqb, ltb}
 use Rattle.rules.specs.declared.Item.{Item}
-use Rattle.rules.specs.declared.Verdict.{Verdict}
-use Rattle.rules.specs.declared.Verdict.TheVariants.{Accepted}
 use Rattle.rules.specs.Table.{first_of}
-use Rattle.rules.specs.Verdict.{accepted}
-use Rattle.rules.specs.Description.{Description, item_in, field_size, items_in, repeats, is_full, item_table, items_table, description_table, board_verdict, with_items, description_in}
+use Rattle.rules.specs.Verdict.{Verdict, Accepted, accepted}
+use Rattle.rules.specs.Description.{Description, nothing_listed, items_in, repeats, is_full, item_table, items_table, description_table, board_verdict, with_item, with_items, description_in}
 use Rattle.rules.proofs.Tests.{first_of-append, cleared, passed, none_good, none_falls, none_stops}
 use Rattle.rules.proofs.Verdicts.{not_accepted}
-use Rattle.board_description.specs.Cursor.{cursor_at, item_no, listed_before}
-use Rattle.board_description.proofs.Fields.{field_within, field_some}
-use Rattle.board_description.proofs.Cursors.{items_at, items_end, cursor_next, listed_next, cursor_item, cursor_step}
+use Rattle.board_description.specs.EarlierItems.{listed_before}
+use Rattle.board_description.proofs.Listed.{with_items-last, listed_seen}
 
 -- ---- one item
 
@@ -66,107 +62,67 @@ item_clear d x good =
 
 -- ---- the items in turn
 
--- what the items from item k on come to
-unfoldable pub verdict_from : List ℕ → ℕ → Verdict
-verdict_from bytes k = first_of Accepted (items_table (listed_before bytes k) (items_in (drop (cursor_at bytes k) bytes)))
+-- k items are seen, none of which has a fault, and what is left decides
+pub record Reached (bytes : List ℕ) (seen left : List Item) (k : ℕ) : Type 0 where
+  pub parts : items_in bytes ≡ seen ++ left
+  pub counted : k ≡ length seen
+  pub verdict : board_verdict false bytes ≡ first_of Accepted (items_table (listed_before bytes k) left)
 
--- and what they list behind those before
-unfoldable pub listed_from : List ℕ → ℕ → Description
-listed_from bytes k = with_items (listed_before bytes k) (items_in (drop (cursor_at bytes k) bytes))
+pub reached_start : (bytes : List ℕ) → Reached bytes [] (items_in bytes) 0
+unfolding board_verdict description_table first_of listed_before with_items
+reached_start bytes = record { parts = refl; counted = refl; verdict = refl }
 
--- a cursor has come to place `at`, where item k begins, and none of the items before has a fault
-pub record Reached (bytes : List ℕ) (at k : ℕ) : Type 0 where
-  pub cursor : at ≡ cursor_at bytes k
-  pub within : at ≤ length bytes
-  pub counted : k ≤ at
-  pub verdict : board_verdict false bytes ≡ verdict_from bytes k
-  pub description : description_in bytes ≡ listed_from bytes k
+-- a turn of the loop
+module _ {bytes : List ℕ} {seen left rest : List Item} {k : ℕ} {x : Item} (r : Reached bytes seen left k) (next : left ≡ x ∷ rest) where
+  parts_on : items_in bytes ≡ (seen ++ (x ∷ [])) ++ rest
+  parts_on = r.parts ∙ ap (λ (l : List Item). seen ++ l) next ∙ sym (append_assoc seen (x ∷ []) rest)
 
-pub reached_start : (bytes : List ℕ) → Reached bytes 0 0
-unfolding cursor_at board_verdict description_table first_of verdict_from listed_from listed_before description_in
-reached_start bytes =
-    record { cursor = refl; within = omega arith; counted = omega arith; verdict = refl; description = refl }
+  counted_on : k + 1 ≡ length (seen ++ (x ∷ []))
+  counted_on = ap (λ (n : ℕ). n + 1) r.counted ∙ sym (length-append seen (x ∷ []))
 
--- the items before lie within the bytes
-pub reached_within : {bytes : List ℕ} {at k : ℕ} → Reached bytes at k → cursor_at bytes k ≤ length bytes
-reached_within r = omega (arith, r.cursor, r.within)
+  pub listed_next : listed_before bytes (k + 1) ≡ with_item (listed_before bytes k) x
+  listed_next =
+      listed_seen bytes _ rest (k + 1) parts_on counted_on
+      ∙ with_items-last nothing_listed seen x
+      ∙ ap (λ (d : Description). with_item d x) (sym (listed_seen bytes seen left k r.parts r.counted))
 
-module _ (bytes : List ℕ) (k : ℕ) (inside : cursor_at bytes k < length bytes) where
-  -- item k and those behind it
-  split : items_in (drop (cursor_at bytes k) bytes) ≡ item_no bytes k ∷ items_in (drop (cursor_at bytes (k + 1)) bytes)
-  unfolding item_no
-  split =
-      items_at bytes (cursor_at bytes k) inside
-      ∙ ap (λ (n : ℕ). item_no bytes k ∷ items_in (drop n bytes)) (sym (cursor_next bytes k))
-
-  verdict_next : verdict_from bytes k ≡ first_of (verdict_from bytes (k + 1)) (item_table (listed_before bytes k) (item_no bytes k))
-  unfolding verdict_from items_table
+  verdict_next : board_verdict false bytes
+      ≡ first_of (first_of Accepted (items_table (with_item (listed_before bytes k) x) rest)) (item_table (listed_before bytes k) x)
+  unfolding items_table
   verdict_next =
-      ap (λ (xs : List Item). first_of Accepted (items_table (listed_before bytes k) xs)) split
-      ∙ first_of-append Accepted (item_table (listed_before bytes k) (item_no bytes k)) _
-      ∙ ap (λ (d : Description). first_of (first_of Accepted (items_table d (items_in (drop (cursor_at bytes (k + 1)) bytes))))
-      (item_table (listed_before bytes k) (item_no bytes k))) (sym (listed_next bytes k))
-
-  listed-on : listed_from bytes k ≡ listed_from bytes (k + 1)
-  unfolding listed_from with_items
-  listed-on =
-      ap (with_items (listed_before bytes k)) split
-      ∙ ap (λ (d : Description). with_items d (items_in (drop (cursor_at bytes (k + 1)) bytes))) (sym (listed_next bytes k))
-
--- a turn of the loop: what it has read is the item at the cursor
-module _ {bytes : List ℕ} {at k : ℕ} {x : Item} (r : Reached bytes at k) (inside : at < length bytes) (is : x ≡ item_in (drop at bytes)) where
-  there : cursor_at bytes k < length bytes
-  there = subst (λ (n : ℕ). n < length bytes) r.cursor inside
-
-  turn-item : x ≡ item_no bytes k
-  turn-item = cursor_item bytes k r.cursor is
-
-  same_table : first_of Accepted (item_table (listed_before bytes k) (item_no bytes k)) ≡ first_of Accepted (item_table (listed_before bytes k) x)
-  same_table = ap (λ (y : Item). first_of Accepted (item_table (listed_before bytes k) y)) (sym turn-item)
+      r.verdict
+      ∙ ap (λ (l : List Item). first_of Accepted (items_table (listed_before bytes k) l)) next
+      ∙ first_of-append Accepted (item_table (listed_before bytes k) x) _
 
   -- a fault decides
   pub turn-bad : {fault : Verdict} → fault ≡ first_of Accepted (item_table (listed_before bytes k) x) → (fault ≡ Accepted → ⊥)
       → board_verdict false bytes ≡ fault
-  turn-bad told bad =
-      r.verdict
-      ∙ verdict_next bytes k there
-      ∙ item_bad (listed_before bytes k) (item_no bytes k) _ (λ good. bad (told ∙ sym same_table ∙ good))
-      ∙ same_table
-      ∙ sym told
+  turn-bad told bad = verdict_next ∙ item_bad (listed_before bytes k) x _ (λ good. bad (told ∙ good)) ∙ sym told
 
-  -- without one the cursor goes on
-  pub turn-good : {size : ℕ} → first_of Accepted (item_table (listed_before bytes k) x) ≡ Accepted → size ≡ field_size x
-      → Reached bytes (at + size) (k + 1)
-  turn-good {size} good sized =
-      let clear = item_clear (listed_before bytes k) x good in
-      let fits : field_size x ≤ length (drop at bytes) =
-      subst⁻¹ (λ (y : Item). field_size y ≤ length (drop at bytes)) is
-      (field_within (drop at bytes) (ap (λ (y : Item). eqb y.tag 0) (sym is) ∙ clear.tagged))
-      in
+  -- without one the next item is judged
+  pub turn-good : first_of Accepted (item_table (listed_before bytes k) x) ≡ Accepted → Reached bytes (seen ++ (x ∷ [])) rest (k + 1)
+  turn-good good =
       record {
-        cursor = cursor_step bytes k r.cursor is sized;
-        within = omega (arith, length-drop at bytes);
-        counted = omega (arith, field_some x, r.counted);
+        parts = parts_on;
+        counted = counted_on;
         verdict =
-            r.verdict ∙ verdict_next bytes k there ∙ item_good (listed_before bytes k) (item_no bytes k) _ (same_table ∙ good);
-        description = r.description ∙ listed-on bytes k there;
+            verdict_next
+            ∙ item_good (listed_before bytes k) x _ good
+            ∙ ap (λ (d : Description). first_of Accepted (items_table d rest)) (sym listed_next);
       }
 
   -- of an accepted description no item has one
   pub turn-accepted : board_verdict false bytes ≡ Accepted → first_of Accepted (item_table (listed_before bytes k) x) ≡ Accepted
-  turn-accepted good =
-      sym same_table
-      ∙ item_none (listed_before bytes k) (item_no bytes k) _ (sym (verdict_next bytes k there) ∙ sym r.verdict ∙ good)
+  turn-accepted good = item_none (listed_before bytes k) x _ (sym verdict_next ∙ good)
 
 -- behind the last item nothing is left
-module _ {bytes : List ℕ} {at k : ℕ} (r : Reached bytes at k) (past : length bytes ≤ at) where
-  none_left : items_in (drop (cursor_at bytes k) bytes) ≡ []
-  none_left = items_end bytes (cursor_at bytes k) (subst (λ (n : ℕ). length bytes ≤ n) r.cursor past)
-
+module _ {bytes : List ℕ} {seen left : List Item} {k : ℕ} (r : Reached bytes seen left k) (end : left ≡ []) where
   pub end_verdict : board_verdict false bytes ≡ Accepted
-  unfolding verdict_from items_table first_of
-  end_verdict = r.verdict ∙ ap (λ (xs : List Item). first_of Accepted (items_table (listed_before bytes k) xs)) none_left
+  unfolding items_table first_of
+  end_verdict = r.verdict ∙ ap (λ (l : List Item). first_of Accepted (items_table (listed_before bytes k) l)) end
 
   pub end_listed : description_in bytes ≡ listed_before bytes k
-  unfolding listed_from with_items
-  end_listed = r.description ∙ ap (with_items (listed_before bytes k)) none_left
+  unfolding description_in
+  end_listed =
+      ap (with_items nothing_listed) (r.parts ∙ ap (λ (l : List Item). seen ++ l) end ∙ append-nil seen)
+      ∙ sym (listed_seen bytes seen left k r.parts r.counted)

@@ -1,9 +1,13 @@
 -- What the items before an item of a board description say of it, noted one at a time: the answers that document 02's D3, D5 and D6
 -- ask for.
-use Rattle.std.specs.Prelude.{ℕ, ◌+◌, Bool, cond, not, ◌&&◌, ◌||◌, length, eqb}
+use Rattle.std.specs.Prelude.{ℕ, ◌+◌, Bool, cond, not, ◌&&◌, ◌||◌, List, length, take, eqb}
 use Rattle.rules.specs.declared.Item.{Item}
-use Rattle.rules.specs.Description.{Description, is_host, repeats, other_class}
+use Rattle.rules.specs.Description.{Description, nothing_listed, is_host, repeats, other_class, items_in, with_items}
 use Rattle.board_description.specs.declared.earlier.Before.{Before}
+
+-- what the first k items of the bytes list
+unfoldable pub listed_before : List ℕ → ℕ → Description
+listed_before bytes k = with_items nothing_listed (take k (items_in bytes))
 
 -- the items are of one kind
 unfoldable pub same_kind : Item → Item → Bool

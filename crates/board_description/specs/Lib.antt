@@ -1,3 +1,2 @@
--- Where the items of a description begin, and what they list; and what the items before an item say of it.
-pub mod Cursor
+-- What the items before an item of a description list, and what they say of it.
 pub mod EarlierItems

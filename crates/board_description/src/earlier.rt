@@ -1,10 +1,9 @@
 // What the items of a board description that come before an item say of it: they are walked again, and
 // compared with it one at a time.
-ghost use Rattle.std.specs.Prelude.{◌≡◌, ◌+◌, ◌≤◌, ◌<◌, ◌^◌, length};
-ghost use Rattle.board_description.specs.Cursor.{cursor_at, listed_before};
-ghost use Rattle.board_description.specs.EarlierItems.{same_kind, mixes_classes, before_in, noted};
+ghost use Rattle.std.specs.Prelude.{◌≡◌, ◌+◌, ◌<◌, ◌^◌};
+ghost use Rattle.board_description.specs.EarlierItems.{listed_before, same_kind, mixes_classes, before_in, noted};
 
-use crate::item::{HOST, field_size, item_at};
+use crate::item::{HOST, Items};
 use rules::Item;
 
 // What the items before an item say of it: whether one of its kind has its number, whether a
@@ -17,16 +16,15 @@ pub(crate) struct Before {
 }
 
 // Whether two items are of one kind, hosts or processors.
+#[tactic(auto, unfolding(crate::specs::EarlierItems::same_kind))]
 fn same_kind(item: Item, earlier: Item) -> bool
     ensures { result ≡ same_kind item earlier }
 {
-    if item.tag == HOST {
-        return earlier.tag == HOST;
-    }
-    earlier.tag != HOST
+    (item.tag == HOST) == (earlier.tag == HOST)
 }
 
 // Whether `earlier` is a processor of another class in the cluster of `item`; cluster 0 is none.
+#[tactic(auto, unfolding(crate::specs::EarlierItems::mixes_classes))]
 fn mixes_classes(item: Item, earlier: Item) -> bool
     ensures { result ≡ mixes_classes item earlier }
 {
@@ -37,17 +35,14 @@ fn mixes_classes(item: Item, earlier: Item) -> bool
 }
 
 // An earlier item taken into account.
+#[tactic(auto, unfolding(crate::specs::EarlierItems::noted))]
 fn note(before: Before, item: Item, earlier: Item) -> Before
     requires { before.same + 1 < 2 ^ 64 }
     ensures { result ≡ noted item before earlier }
 {
     let mixed = before.mixed | mixes_classes(item, earlier);
     if !same_kind(item, earlier) {
-        return Before {
-            repeated: before.repeated,
-            mixed,
-            same: before.same,
-        };
+        return Before { mixed, ..before };
     }
     Before {
         repeated: before.repeated | (item.number == earlier.number),
@@ -56,9 +51,8 @@ fn note(before: Before, item: Item, earlier: Item) -> Before
     }
 }
 
-// What the first `count` items of a description, which lie within it, say of an item.
+// What the first `count` items of a description say of an item.
 pub(crate) fn look_back(description: &[u8], count: usize, item: Item) -> Before
-    requires { cursor_at description.now count ≤ length description.now }
     ensures { result ≡ before_in (listed_before description.now count) item }
 {
     let mut before = Before {
@@ -66,13 +60,8 @@ pub(crate) fn look_back(description: &[u8], count: usize, item: Item) -> Before
         mixed: false,
         same: 0,
     };
-    let mut at = 0;
-    let mut k = 0;
-    while k < count {
-        let earlier = item_at(description, at);
+    for earlier in Items(description).take(count) {
         before = note(before, item, earlier);
-        at += field_size(earlier);
-        k += 1;
     }
     before
 }

@@ -10,27 +10,20 @@ ghost use Rattle.std.specs.Prelude.{◌≡◌};
 ghost use Rattle.rules.specs.Description.{board_verdict};
 
 use crate::fault::fault_of;
-pub use item::{HOST, field_size, item_at};
-use rules::Verdict;
+pub use item::{HOST, Items};
+use rules::{Fault, Verdict};
 
 // What a description comes to, where `listed` says whether a list or a block was accepted before. The first
 // fault is reported: a field that is not good ends the search, so what is behind it is never read.
+#[tactic(auto, unfolding(rules::specs::Description::board_verdict, rules::specs::Description::description_table, rules::specs::Table::first_of))]
 pub fn judge_description(listed: bool, description: &[u8]) -> Verdict
     ensures { result ≡ board_verdict listed description.now }
 {
     if listed {
-        return Verdict::A1;
+        return Err(Fault::A1);
     }
-    let mut at = 0;
-    let mut count = 0;
-    while at < description.len() {
-        let item = item_at(description, at);
-        match fault_of(description, count, item) {
-            Verdict::Accepted => {}
-            fault => return fault,
-        }
-        at += field_size(item);
-        count += 1;
+    for (count, item) in Items(description).enumerate() {
+        fault_of(description, count, item)?;
     }
-    Verdict::Accepted
+    Ok(())
 }

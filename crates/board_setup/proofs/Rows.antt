@@ -1,10 +1,9 @@
 -- Laws of the rows that the items of a description get, and of the walk that finds the home of a processor's control word: the first
 -- processor that has the same word.
-use Prim.Native.Nat.{ℕ, zero, suc, ◌+◌, ◌-◌, ◌≤◌, ◌<◌}
-use native.Mathlib.Nat.{add-zero}
+use Prim.Native.Nat.{ℕ, ◌≤◌}
 use native.Mathlib.Omega.{arith}
 use mathlib.Core.Path.{◌≡◌, refl, sym, ap, ◌∙◌}
-use mathlib.Core.Bool.{Bool, true, false, cond, not, ◌&&◌}
+use mathlib.Core.Bool.{Bool, true, false, cond, not}
 use mathlib.Core.List.{List, [], ◌∷◌, ◌++◌, append-nil, append_assoc}
 use mathlib.Core.Logic.{⊎_elim}
 use lib.ListN.{length, length-append}
@@ -12,10 +11,8 @@ use lib.Dec.{eqb}
 use borrow.Author.Tests.{eq-eqb, ne_eqb, not-true}
 use Rattle.rules.specs.declared.Item.{Item}
 use Rattle.rules.specs.Table.{any_of, place_of}
-use Rattle.rules.specs.Description.{Processor, Description, nothing_listed, is_host, with_item, shared_cluster, home_in, item_processor}
+use Rattle.rules.specs.Description.{Processor, Description, nothing_listed, is_host, with_item, with_items, shared_cluster, home_in, item_processor}
 use Rattle.rules.proofs.Tests.{decide, cond-true, cond-false, and_left, and_right}
-use Rattle.board_description.specs.Cursor.{item_no, listed_before}
-use Rattle.board_description.proofs.Cursors.{listed_next}
 use Rattle.board_description.proofs.EarlierItems.{any_last, length_last}
 use Rattle.board_setup.specs.Setup.{shares_word, row_after}
 use Rattle.board_setup.proofs.Lists.{place_first}
@@ -54,7 +51,7 @@ module _ (d : Description) (x : Item) where
       (decide (is_host x))
 
   -- an item that does not have the cluster's word adds none that does
-  word_none : (c : ℕ) → shares_word x c ≡ false → any_of (has_word c) d.processors ≡ false
+  pub word_none : (c : ℕ) → shares_word x c ≡ false → any_of (has_word c) d.processors ≡ false
       → any_of (has_word c) (with_item d x).processors ≡ false
   unfolding shares_word
   word_none c other none =
@@ -68,78 +65,49 @@ module _ (d : Description) (x : Item) where
 
 -- ---- the items in turn
 
-module _ (bytes : List ℕ) where
-  abbrev before : ℕ → List Processor
-  before k = (listed_before bytes k).processors
+-- the processors listed before stay the first
+more_listed : (d : Description) (xs : List Item) → (more : List Processor) × ((with_items d xs).processors ≡ d.processors ++ more)
+unfolding with_items
+more_listed d [] = ([], sym (append-nil d.processors))
+more_listed d (x ∷ xs) =
+    let one = listed_more d x in
+    let some = more_listed (with_item d x) xs in
+    (one.0 ++ some.0, some.1 ∙ ap (λ (l : List Processor). l ++ some.0) one.1 ∙ append_assoc d.processors one.0 some.0)
 
-  -- the processors before an item are the first of those before a later one
-  before_more : (k j : ℕ) → (more : List Processor) × (before (k + j) ≡ before k ++ more)
-  before_more k zero = ([], ap before (add-zero k) ∙ sym (append-nil (before k)))
-  before_more k (suc j) =
-      let some = before_more k j in
-      let last = listed_more (listed_before bytes (k + j)) (item_no bytes (k + j)) in
-      let step : k + suc j ≡ k + j + 1 = omega arith in (
-        some.0 ++ last.0,
-        ap before step
-            ∙ ap (λ (d : Description). d.processors) (listed_next bytes (k + j))
-            ∙ last.1
-            ∙ ap (λ (l : List Processor). l ++ last.0) some.1
-            ∙ append_assoc (before k) some.0 last.0,
-      )
+pub rows-order : (d : Description) (xs : List Item) → length d.processors ≤ length (with_items d xs).processors
+rows-order d xs =
+    let some = more_listed d xs in
+    omega (arith, ap (λ (l : List Processor). length l) some.1, length-append d.processors some.0)
 
-  before-later : (k n : ℕ) → k ≤ n → (more : List Processor) × (before n ≡ before k ++ more)
-  before-later k n h =
-      let whole : n ≡ k + (n - k) = omega arith in
-      let some = before_more k (n - k) in
-      (some.0, ap before whole ∙ some.1)
+pub row_start : 0 ≡ length (with_items nothing_listed []).processors
+unfolding with_items nothing_listed
+row_start = refl
 
-  pub rows-order : (k n : ℕ) → k ≤ n → length (before k) ≤ length (before n)
-  rows-order k n h =
-      let some = before-later k n h in
-      omega (arith, ap length some.1, length-append (before k) some.0)
+pub word_start : (c : ℕ) → any_of (has_word c) (with_items nothing_listed []).processors ≡ false
+unfolding with_items nothing_listed any_of
+word_start c = refl
 
-  pub row_start : 0 ≡ length (before 0)
-  unfolding listed_before nothing_listed
-  row_start = refl
+-- a turn of a walk
+module _ (d : Description) (x : Item) {row : ℕ} (rowed : row ≡ length d.processors) where
+  pub row_next : row_after row x ≡ length (with_item d x).processors
+  row_next = ap (λ (n : ℕ). row_after n x) rowed ∙ row_count d x
 
-  pub word_start : (c : ℕ) → any_of (has_word c) (before 0) ≡ false
-  unfolding listed_before nothing_listed any_of
-  word_start c = refl
-
-  -- a turn of a walk: what it has read is item k, and how many processors were before
-  module _ (k : ℕ) {row : ℕ} {x : Item} (rowed : row ≡ length (before k)) (is : x ≡ item_no bytes k) where
-    pub row_next : row_after row x ≡ length (before (k + 1))
-    row_next =
-        ap (λ (n : ℕ). row_after n x) rowed
-        ∙ ap (row_after (length (before k))) is
-        ∙ row_count (listed_before bytes k) (item_no bytes k)
-        ∙ ap (λ (d : Description). length d.processors) (sym (listed_next bytes k))
-
-    module _ (c : ℕ) (none : any_of (has_word c) (before k) ≡ false) where
-      pub word_next : shares_word x c ≡ false → any_of (has_word c) (before (k + 1)) ≡ false
-      word_next other =
-          ap (λ (d : Description). any_of (has_word c) d.processors) (listed_next bytes k)
-          ∙ word_none (listed_before bytes k) (item_no bytes k) c (ap (λ (y : Item). shares_word y c) (sym is) ∙ other) none
-
-      -- an item that has the cluster's word is the first, and stays the first
-      pub word-found : (n : ℕ) (last : Processor) → k < n → shares_word x c ≡ true → place_of (has_word c) (before n ++ (last ∷ [])) ≡ row
-      unfolding shares_word
-      word-found n last h shares =
-          let q = item_processor (item_no bytes k) in
-          let told : (not (is_host (item_no bytes k)) && has_word c q) ≡ true = ap (λ (y : Item). shares_word y c) (sym is) ∙ shares in
-          let some = before-later (k + 1) n (omega arith) in
-          let here : before (k + 1) ≡ before k ++ (q ∷ []) =
-          ap (λ (d : Description). d.processors) (listed_next bytes k)
-          ∙ listed-processor (listed_before bytes k) (item_no bytes k) (not-true _ (and_left _ (has_word c q) told))
-          in
-          let whole : before n ++ (last ∷ []) ≡ before k ++ (q ∷ (some.0 ++ (last ∷ []))) =
-          ap (λ (l : List Processor). l ++ (last ∷ [])) (some.1 ∙ ap (λ (l : List Processor). l ++ some.0) here)
-          ∙ append_assoc (before k ++ (q ∷ [])) some.0 (last ∷ [])
-          ∙ append_assoc (before k) (q ∷ []) (some.0 ++ (last ∷ []))
-          in
-          ap (place_of (has_word c)) whole
-          ∙ place_first (has_word c) (before k) q (some.0 ++ (last ∷ [])) none (and_right (not (is_host (item_no bytes k))) (has_word c q) told)
-          ∙ sym rowed
+  -- an item that has the cluster's word is the first, and stays the first
+  pub word-found : (c : ℕ) (rest : List Item) (last : Processor) → any_of (has_word c) d.processors ≡ false → shares_word x c ≡ true
+      → place_of (has_word c) ((with_items d (x ∷ rest)).processors ++ (last ∷ [])) ≡ row
+  unfolding shares_word with_items
+  word-found c rest last none shares =
+      let q = item_processor x in
+      let some = more_listed (with_item d x) rest in
+      let here = listed-processor d x (not-true _ (and_left _ (has_word c q) shares)) in
+      let whole : (with_items (with_item d x) rest).processors ++ (last ∷ []) ≡ d.processors ++ (q ∷ (some.0 ++ (last ∷ []))) =
+      ap (λ (l : List Processor). l ++ (last ∷ [])) (some.1 ∙ ap (λ (l : List Processor). l ++ some.0) here)
+      ∙ append_assoc (d.processors ++ (q ∷ [])) some.0 (last ∷ [])
+      ∙ append_assoc d.processors (q ∷ []) (some.0 ++ (last ∷ []))
+      in
+      ap (place_of (has_word c)) whole
+      ∙ place_first (has_word c) d.processors q (some.0 ++ (last ∷ [])) none (and_right (not (is_host x)) (has_word c q) shares)
+      ∙ sym rowed
 
 -- ---- the home of a new processor
 

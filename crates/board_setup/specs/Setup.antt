@@ -1,10 +1,9 @@
 -- The board memory after a description is offered (document 02, L8: "taken whole, replacing the board before it"), and the steps by
 -- which it is filled item by item.
-use Rattle.std.specs.Prelude.{ℕ, ◌+◌, ◌≤◌, ◌≡◌, Bool, cond, not, ◌&&◌, List, length, eqb}
+use Rattle.std.specs.Prelude.{ℕ, ◌+◌, Bool, cond, not, ◌&&◌, List, eqb}
 use Rattle.rules.specs.declared.Item.{Item}
 use Rattle.rules.specs.Verdict.{accepted}
 use Rattle.rules.specs.Description.{Description, is_host, item_processor, with_item, board_verdict, shared_cluster, home_in, described}
-use Rattle.board_description.specs.Cursor.{cursor_at, listed_before}
 use Rattle.board.specs.Memory.{board_bytes, with_host_mark, with_processor_at}
 
 -- what the memory holds after an offer: the described board, or what it held where the description is refused
@@ -20,11 +19,6 @@ shares_word x c = not (is_host x) && eqb c (shared_cluster (item_processor x))
 -- the first row behind an item, where `row` is the first behind those before it
 unfoldable pub row_after : ℕ → Item → ℕ
 row_after row x = cond (is_host x) row (row + 1)
-
--- `row` is the first free row behind the first `count` items, and these lie within the bytes
-pub record Behind (bytes : List ℕ) (count row : ℕ) : Type 0 where
-  pub within : cursor_at bytes count ≤ length bytes
-  pub free : row ≡ length (listed_before bytes count).processors
 
 -- an item put on the board that lists d, where `row` is the first free one
 unfoldable pub put_item : List ℕ → Description → Item → ℕ → List ℕ

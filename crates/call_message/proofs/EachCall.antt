@@ -6,17 +6,17 @@ use mathlib.Core.List.{List}
 use mathlib.Core.Logic.{⊎_elim}
 use native.Mathlib.Nat.{le_trans}
 use lib.ListN.{length}
-use lib.Dec.{ltb, lit<}
+use lib.Dec.{ltb}
 use borrow.Author.Tests.{le-leb, ltb-true, ltb-false}
+use Rattle.std.specs.Prelude.{Err}
 use Rattle.rules.specs.declared.Kind.{Kind}
-use Rattle.rules.specs.declared.Outcome.{Outcome}
-use Rattle.rules.specs.declared.Outcome.TheVariants.{R1}
+use Rattle.rules.specs.declared.Refusal.TheVariants.{R1}
 use Rattle.rules.specs.declared.Record.{Record}
 use Rattle.rules.specs.declared.Report.{Report}
 use Rattle.rules.specs.Table.{first_of}
 use Rattle.rules.specs.Board.{Board, rows, row_of, on_board}
 use Rattle.rules.specs.Message.{Query, largest_answer, query, kind_in, subject_of}
-use Rattle.rules.specs.Outcome.{View, before_type, admission, outcome_table, outcome_of, carried_out}
+use Rattle.rules.specs.Outcome.{Outcome, View, before_type, admission, outcome_table, outcome_of, carried_out, silent}
 use Rattle.rules.specs.Effect.{effect_of, record_after}
 use Rattle.rules.specs.Answer.{ack_bytes, bytes_for, answer_bytes, answer_of, report_of, buffer_after}
 use Rattle.rules.specs.State.{State, view_of, put_in, stored}
@@ -42,12 +42,12 @@ written_short s q = bytes-short _ q _
 
 -- R1 has no answer, and any other outcome has room for it
 all_fits : (v : View) (q : Query) → fitted q.room (answer_of v q) ≡ answer_of v q
-unfolding answer_of fitted outcome_of outcome_table admission before_type first_of
+unfolding answer_of fitted outcome_of outcome_table admission before_type first_of carried_out silent
 all_fits v q =
     ⊎_elim
     (λ (small : ltb q.room largest_answer ≡ true).
-    let refused : outcome_of v q ≡ R1 = cond-true _ _ small in
-    let none = ap (λ (o : Outcome). answer_bytes o q v.state) refused ∙ bytes-silent R1 q v.state (lit< tt) in
+    let refused : outcome_of v q ≡ (Err R1) = cond-true _ _ small in
+    let none = ap (λ (o : Outcome). answer_bytes o q v.state) refused ∙ bytes-silent (Err R1) q v.state refl refl in
     ap (fitted q.room) none ∙ fitted_none q.room ∙ sym none)
     (λ (room : ltb q.room largest_answer ≡ false).
     let fits = le-leb _ q.room (le_trans (bytes-short (outcome_of v q) q v.state) (ltb-false q.room largest_answer room)) in

@@ -18,7 +18,7 @@ use message_set_config::set_config;
 use message_set_control::set_control;
 use message_wait_status::wait_status;
 use record::RecordMemory;
-use rules::{Kind, Outcome};
+use rules::{Kind, Refusal};
 
 // The rows from N3 on, by the type, with the effect of OK.
 pub(crate) fn by_kind(
@@ -43,6 +43,6 @@ pub(crate) fn by_kind(
         Kind::AuthBoot => outcome_alone(authenticated_boot(message)),
         Kind::GetStatus => outcome_alone(get_status(board, access, channel, message, status)),
         Kind::WaitStatus => wait_status(board, access, channel, message, status),
-        Kind::Other => outcome_alone(Outcome::N3),
+        Kind::Other => outcome_alone(Err(Refusal::N3)),
     }
 }

@@ -20,7 +20,7 @@ use board::BoardMemory;
 use message_answer::write_answer;
 use message_operation::{Decision, outcome_alone};
 use record::RecordMemory;
-use rules::{Outcome, Report};
+use rules::Report;
 
 // What a message call comes to, by the whole table, with the effect of OK.
 fn decide(
@@ -36,11 +36,10 @@ fn decide(
         (memories board.now access.now records.old)
         (query channel message.now status.now room) records.new result }
 {
-    let first = before_type(board, access, channel, message, room);
-    match first {
-        Outcome::Ok => by_kind(board, access, records, channel, message, status),
-        refusal => outcome_alone(refusal),
+    if let Err(refusal) = before_type(board, access, channel, message, room) {
+        return outcome_alone(Err(refusal));
     }
+    by_kind(board, access, records, channel, message, status)
 }
 
 // Carries out one message from the channel of host `channel`. Board and access memory are only read. The

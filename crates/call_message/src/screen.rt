@@ -1,7 +1,7 @@
 // The rows of document 01's outcome table that come before the type, R1 to N2: answer room, message
 // length, whether a list or a block was accepted, and the sender.
 ghost use Rattle.std.specs.Prelude.{◌≡◌, List, ℕ};
-ghost use Rattle.rules.specs.declared.Outcome.TheVariants.{Ok};
+ghost use Rattle.rules.specs.Outcome.{OK};
 ghost use Rattle.rules.specs.Table.{first_of};
 ghost use Rattle.rules.specs.Message.{query};
 ghost use Rattle.rules.specs.Outcome.{sender_wrong, before_type};
@@ -12,7 +12,7 @@ use access::is_listed;
 use board::{BoardMemory, is_active};
 use message_answer::ANSWER_BYTES;
 use message_fields::{HEADER_BYTES, HOST, MESSAGE_BYTES};
-use rules::Outcome;
+use rules::{Outcome, Refusal};
 use wire::byte_at;
 
 // N2: whether the channel host is unlike the header's host, or not one that sends.
@@ -34,21 +34,21 @@ pub(crate) fn before_type(
     message: &[u8],
     room: usize,
 ) -> Outcome
-    ensures { (status : List ℕ) → result ≡ first_of Ok (before_type (board_in board.now)
+    ensures { (status : List ℕ) → result ≡ first_of OK (before_type (board_in board.now)
         (listed_in access.now) (query channel message.now status room)) }
 {
     let length = message.len();
     if room < ANSWER_BYTES {
-        return Outcome::R1;
+        return Err(Refusal::R1);
     }
     if (length < HEADER_BYTES) | (MESSAGE_BYTES < length) {
-        return Outcome::R2;
+        return Err(Refusal::R2);
     }
     if !is_listed(access) {
-        return Outcome::N1;
+        return Err(Refusal::N1);
     }
     if sender_wrong(board, channel, message) {
-        return Outcome::N2;
+        return Err(Refusal::N2);
     }
-    Outcome::Ok
+    Ok(())
 }

@@ -1,18 +1,17 @@
 -- The offers over plain lists: what their steps leave is what the rules give.
 use Prim.Native.Nat.{ℕ}
-use mathlib.Core.Path.{◌≡◌, sym, ap, ◌∙◌, subst⁻¹}
+use mathlib.Core.Path.{◌≡◌, sym, ap, ◌∙◌}
 use mathlib.Core.Bool.{Bool}
 use mathlib.Core.List.{List}
 use mathlib.Core.Logic.{⊎_elim}
-use Rattle.rules.specs.declared.BlockReport.{BlockReport}
-use Rattle.rules.specs.declared.Verdict.{Verdict}
-use Rattle.rules.specs.declared.Verdict.TheVariants.{Accepted, B8}
+use Rattle.std.specs.Prelude.{Err}
+use Rattle.rules.specs.declared.Fault.TheVariants.{B8}
 use Rattle.rules.specs.Board.{Board}
 use Rattle.rules.specs.Description.{board_verdict, description_in, described}
-use Rattle.rules.specs.Verdict.{accepted}
+use Rattle.rules.specs.Verdict.{Verdict, Accepted, accepted, reported_host}
 use Rattle.rules.specs.AccessList.{verdict_of}
 use Rattle.rules.specs.Hierarchy.{pairs, Ends, FirstOnLoop}
-use Rattle.rules.specs.Block.{hierarchy_part, block_verdict, reported_host}
+use Rattle.rules.specs.Block.{hierarchy_part, block_verdict}
 use Rattle.rules.specs.State.{Setup, State}
 use Rattle.rules.specs.Call.{Offer, board, list, block, verdict_to, taken, after_offer, offer, next}
 use Rattle.rules.proofs.Tests.{decide, cond-true, cond-false}
@@ -101,7 +100,7 @@ board_call_lem m a bytes m' read told left =
       state = λ records. ap (λ (l : List ℕ). state_in (board_in l) a records) after ∙ board_state m a bytes records;
     }
 
--- what the code does with a list on board b, and with a block, which is told with a host
+-- what the code does with a list on board b, and with a block
 module _ (m a bytes : List ℕ) {b : Board} (on : board_in m ≡ b) where
   pub list_call_lem : {a' : List ℕ} {v : Verdict} → v ≡ verdict_of b (listed_in a) bytes → a' ≡ access_after b a bytes → ListCall m a bytes a' v
   list_call_lem told left =
@@ -112,29 +111,26 @@ module _ (m a bytes : List ℕ) {b : Board} (on : board_in m ≡ b) where
         state = λ records. ap (λ (l : List ℕ). state_in (board_in m) l records) after ∙ list_state (board_in m) a bytes records;
       }
 
-  pub block_call_lem : {a' : List ℕ} {r : BlockReport} (major minor : ℕ) → r.verdict ≡ block_verdict b (listed_in a) major minor bytes
-      → r.host ≡ reported_host r.verdict bytes → a' ≡ access_after_block b a major minor bytes → BlockCall m a major minor bytes a' r
-  block_call_lem major minor told host left =
+  pub block_call_lem : {a' : List ℕ} {v : Verdict} (major minor : ℕ) → v ≡ block_verdict b (listed_in a) major minor bytes
+      → a' ≡ access_after_block b a major minor bytes → BlockCall m a major minor bytes a' v
+  block_call_lem major minor told left =
       let Told-here = told ∙ ap (λ (x : Board). block_verdict x (listed_in a) major minor bytes) (sym on) in
       let after = left ∙ ap (λ (x : Board). access_after_block x a major minor bytes) (sym on) in
       record {
         verdict = Told-here;
-        host = host ∙ ap (λ (v : Verdict). reported_host v bytes) Told-here;
+        host = ap reported_host Told-here;
         access_after_lem = after;
         state = λ records. ap (λ (l : List ℕ). state_in (board_in m) l records) after ∙ block_state (board_in m) a major minor bytes records;
       }
 
 -- ---- what the block call tells
 
-module _ {m a : List ℕ} {major minor : ℕ} {bytes a' : List ℕ} {r : BlockReport} (call : BlockCall m a major minor bytes a' r) where
+module _ {m a : List ℕ} {major minor : ℕ} {bytes a' : List ℕ} {v : Verdict} (call : BlockCall m a major minor bytes a' v) where
   -- of a block that it accepts: from every host, following supervisors ends
-  pub block_ends : r.verdict ≡ Accepted → (h : ℕ) → Ends (pairs (hierarchy_part bytes)) h
+  pub block_ends : v ≡ Accepted → (h : ℕ) → Ends (pairs (hierarchy_part bytes)) h
   unfolding accepted
   block_ends good h = accepted-ends (board_in m) (listed_in a) major minor bytes (ap accepted (sym call.verdict ∙ good)) h
 
   -- with B8 the host: the first in entry order that lies on a loop
-  pub block_first : r.verdict ≡ B8 → FirstOnLoop (pairs (hierarchy_part bytes)) r.host
-  block_first is =
-      let told = sym call.verdict ∙ is in
-      subst⁻¹ (FirstOnLoop (pairs (hierarchy_part bytes))) (call.host ∙ ap (λ (v : Verdict). reported_host v bytes) told)
-      (B8-first (board_in m) (listed_in a) major minor bytes told)
+  pub block_first : {h : ℕ} → v ≡ Err (B8 h) → FirstOnLoop (pairs (hierarchy_part bytes)) h
+  block_first is = B8-first (board_in m) (listed_in a) major minor bytes (sym call.verdict ∙ is)

@@ -4,9 +4,8 @@ use mathlib.Core.Path.{◌≡◌, refl, sym, ap, ◌∙◌}
 use mathlib.Core.Bool.{Bool, true}
 use mathlib.Core.List.{List}
 use mathlib.Core.Logic.{⊎_elim}
-use Rattle.rules.specs.declared.Verdict.{Verdict}
 use Rattle.rules.specs.Board.{Board}
-use Rattle.rules.specs.Verdict.{accepted}
+use Rattle.rules.specs.Verdict.{Verdict, accepted}
 use Rattle.rules.specs.AccessList.{Entry, entries_of, verdict_of}
 use Rattle.rules.specs.Block.{list_part, block_verdict}
 use Rattle.rules.specs.State.{listed, Records, State}

@@ -1,8 +1,7 @@
 -- The access memory after the list call and the block call: what an accepted list puts there, alone or in a block.
 use Rattle.std.specs.Prelude.{ℕ, cond, List}
-use Rattle.rules.specs.declared.Verdict.{Verdict}
 use Rattle.rules.specs.Board.{Board}
-use Rattle.rules.specs.Verdict.{accepted}
+use Rattle.rules.specs.Verdict.{Verdict, accepted}
 use Rattle.rules.specs.AccessList.{verdict_of}
 use Rattle.rules.specs.Block.{list_part, block_verdict}
 use Rattle.access.specs.Memory.{listed_in}

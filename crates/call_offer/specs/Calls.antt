@@ -1,10 +1,9 @@
 -- What the three offers promise, over the definitions that demand 3 is about.
 use Rattle.std.specs.Prelude.{ℕ, ◌≡◌, List}
-use Rattle.rules.specs.declared.BlockReport.{BlockReport}
-use Rattle.rules.specs.declared.Verdict.{Verdict}
+use Rattle.rules.specs.Verdict.{Verdict, reported_host}
 use Rattle.rules.specs.Description.{board_verdict}
 use Rattle.rules.specs.AccessList.{verdict_of}
-use Rattle.rules.specs.Block.{block_verdict, reported_host}
+use Rattle.rules.specs.Block.{block_verdict}
 use Rattle.rules.specs.Call.{board, list, block, offer, next}
 use Rattle.board.specs.Memory.{board_in}
 use Rattle.board_setup.specs.Setup.{board_after}
@@ -29,9 +28,9 @@ pub record ListCall (memory access bytes access' : List ℕ) (r : Verdict) : Typ
       (records : List ℕ) → state_in (board_in memory) access' records ≡ kept (next (state_in (board_in memory) access records) (offer (list bytes)))
 
 -- the same for any two ABI bytes and any block, with the host that is reported
-pub record BlockCall (memory access : List ℕ) (major minor : ℕ) (bytes access' : List ℕ) (r : BlockReport) : Type 0 where
-  pub verdict : r.verdict ≡ block_verdict (board_in memory) (listed_in access) major minor bytes
-  pub host : r.host ≡ reported_host (block_verdict (board_in memory) (listed_in access) major minor bytes) bytes
+pub record BlockCall (memory access : List ℕ) (major minor : ℕ) (bytes access' : List ℕ) (r : Verdict) : Type 0 where
+  pub verdict : r ≡ block_verdict (board_in memory) (listed_in access) major minor bytes
+  pub host : reported_host r ≡ reported_host (block_verdict (board_in memory) (listed_in access) major minor bytes)
   pub access_after_lem : access' ≡ access_after_block (board_in memory) access major minor bytes
   pub state :
       (records : List ℕ)

@@ -9,7 +9,7 @@ use access::{AccessMemory, is_listed, put_in_force};
 use access_block::{HIERARCHY_PLACE, LIST_PLACE, judge_block};
 use access_list::judge_list;
 use board::BoardMemory;
-use rules::{BlockReport, Verdict};
+use rules::Verdict;
 
 // Offers a board description. Before a list or a block is accepted a good one is taken, and its board
 // replaces the one before it whole; a refused one changes nothing.
@@ -24,12 +24,9 @@ pub fn offer_board(board: &mut BoardMemory, access: &AccessMemory, description: 
 pub fn offer_list(board: &BoardMemory, access: &mut AccessMemory, list: &[u8]) -> Verdict
     ensures { ListCall board.now access.old list.now access.new result }
 {
-    match judge_list(board, is_listed(&access[..]), list) {
-        Verdict::Accepted => {}
-        fault => return fault,
-    }
+    judge_list(board, is_listed(&access[..]), list)?;
     put_in_force(board, access, list);
-    Verdict::Accepted
+    Ok(())
 }
 
 // Offers a security board configuration, which must have the ABI bytes `major` and `minor`. The first list or
@@ -41,15 +38,10 @@ pub fn offer_block(
     major: u8,
     minor: u8,
     block: &[u8],
-) -> BlockReport
+) -> Verdict
     ensures { BlockCall board.now access.old major minor block.now access.new result }
 {
-    let report = judge_block(board, is_listed(&access[..]), major, minor, block);
-    let verdict = report.verdict;
-    match verdict {
-        Verdict::Accepted => (),
-        _ => return report,
-    }
+    judge_block(board, is_listed(&access[..]), major, minor, block)?;
     put_in_force(board, access, &block[LIST_PLACE..HIERARCHY_PLACE]);
-    report
+    Ok(())
 }

@@ -19,15 +19,15 @@ const MASKS: [[u32; 2]; 2] = [[0xFF03, 0x3], [0x10F, 0x103]];
 const KEEP_VECTOR: u32 = 0x10000000;
 
 // The flag bits that may be named in `word`, by a processor's class.
+#[tactic(auto, unfolding(rules::specs::Board::mask_of))]
 fn mask_of(class: usize, word: usize) -> u32
     ensures { result ≡ mask_of class word }
 {
-    if class < 2 {
-        if word < 2 {
-            return MASKS[class][word];
-        }
-    }
-    0
+    MASKS
+        .get(class)
+        .and_then(|masks| masks.get(word))
+        .copied()
+        .unwrap_or(0)
 }
 
 // The bits that a clear word may name: the mask, and for config bit 28 too.

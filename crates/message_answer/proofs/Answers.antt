@@ -1,20 +1,16 @@
 -- The answer's bytes by case, and what fits the room.
-use Prim.Native.Nat.{ℕ, ◌<◌, ◌≤◌}
+use Prim.Native.Nat.{ℕ, ◌≤◌}
 use mathlib.Core.Path.{◌≡◌, refl, sym, subst, ap, ◌∙◌}
 use mathlib.Core.Bool.{Bool, true, false, cond}
 use mathlib.Core.List.{List, [], ◌++◌}
 use mathlib.Core.Logic.{⊎_elim}
-use native.Mathlib.Omega.{arith}
 use lib.ListN.{length}
 use lib.Dec.{leb, lit≤}
-use borrow.Author.Tests.{lt-ltb, ne_eqb}
 use Rattle.rules.specs.declared.Kind.{Kind}
 use Rattle.rules.specs.declared.Kind.TheVariants.{Request, Release, Handover, SetConfig, SetControl, AuthBoot, GetStatus, WaitStatus, Other}
-use Rattle.rules.specs.declared.Outcome.{Outcome}
-use Rattle.rules.specs.declared.Outcome.TheVariants.{Ok}
 use Rattle.rules.specs.declared.Record.{Record}
 use Rattle.rules.specs.Message.{Query, largest_answer, answer_asked, is_kind, kind_in}
-use Rattle.rules.specs.Outcome.{outcome_number, carried_out, silent}
+use Rattle.rules.specs.Outcome.{Outcome, OK, carried_out, silent}
 use Rattle.rules.specs.Effect.{effect_of}
 use Rattle.rules.specs.Answer.{ack, nak, status_bytes, status_now, ack_bytes, bytes_for, answer_bytes, buffer_after}
 use Rattle.rules.proofs.Tests.{decide, cond-false}
@@ -57,17 +53,16 @@ module _ (o : Outcome) (q : Query) (r : Record) where
   bytes-unasked f = cond-false _ _ f
 
   -- OK is the only outcome that is carried out
-  pub bytes_ok : carried_out o ≡ true → answer_bytes Ok q r ≡ answer_bytes o q r
+  pub bytes_ok : carried_out o ≡ true → answer_bytes OK q r ≡ answer_bytes o q r
   unfolding answer_bytes bytes_for carried_out
   bytes_ok ok = rw ok
 
   -- of R1 to R3 the sender is told nothing
-  pub bytes-silent : 100 < outcome_number o → answer_bytes o q r ≡ []
-  unfolding answer_bytes bytes_for silent carried_out
-  bytes-silent h =
+  pub bytes-silent : carried_out o ≡ false → silent o ≡ true → answer_bytes o q r ≡ []
+  unfolding answer_bytes bytes_for
+  bytes-silent refused quiet =
       ⊎_elim
-      (λ (asked : answer_asked q.message ≡ true).
-      rw (asked, ne_eqb (outcome_number o) 0 (λ e. omega arith), lt-ltb 100 (outcome_number o) h))
+      (λ (asked : answer_asked q.message ≡ true). rw (asked, refused, quiet))
       bytes-unasked
       (decide (answer_asked q.message))
 
@@ -78,12 +73,12 @@ module _ (o : Outcome) (q : Query) (r : Record) where
 
 module _ (q : Query) (r : Record) (asked : answer_asked q.message ≡ true) where
   -- OK to get status has the record and the status now
-  pub bytes-status : kind_in q.message ≡ GetStatus → answer_bytes Ok q r ≡ ack q.message ++ status_bytes q.message r (status_now q)
+  pub bytes-status : kind_in q.message ≡ GetStatus → answer_bytes OK q r ≡ ack q.message ++ status_bytes q.message r (status_now q)
   unfolding answer_bytes bytes_for ack_bytes carried_out
   bytes-status is = rw (asked, is)
 
   -- to any other type it is the header alone
-  pub bytes-ack : is_kind (kind_in q.message) GetStatus ≡ false → answer_bytes Ok q r ≡ ack q.message
+  pub bytes-ack : is_kind (kind_in q.message) GetStatus ≡ false → answer_bytes OK q r ≡ ack q.message
   unfolding answer_bytes bytes_for ack_bytes carried_out
   bytes-ack other = rw (asked, other)
 

@@ -1,6 +1,6 @@
 -- What is written to the answer buffer: an answer's bytes, where they fit it, at its start.
 use Rattle.std.specs.Prelude.{ℕ, ◌≡◌, cond, List, [], length, leb}
-use Rattle.rules.specs.declared.Outcome.{Outcome}
+use Rattle.rules.specs.Outcome.{Outcome}
 use Rattle.rules.specs.Message.{query}
 use Rattle.rules.specs.Answer.{answer_bytes, buffer_after}
 use Rattle.board.specs.Memory.{board_in}

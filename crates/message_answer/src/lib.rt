@@ -4,8 +4,8 @@
 
 mod bytes;
 
-ghost use Rattle.std.specs.Prelude.{◌≡◌, get_or, cond, []};
-ghost use Rattle.rules.specs.declared.Outcome.TheVariants.{Ok};
+ghost use Rattle.std.specs.Prelude.{◌≡◌, Err, cond, []};
+ghost use Rattle.rules.specs.Outcome.{OK, silent};
 ghost use Rattle.rules.specs.Message.{answer_asked};
 ghost use Rattle.rules.specs.Answer.{nak};
 ghost use Rattle.message_answer.specs.Puts.{answer_in, Puts};
@@ -16,19 +16,8 @@ pub use bytes::ANSWER_BYTES;
 use message_fields::{answer_asked, kind_in};
 use message_operation::row_in;
 use record::record_at;
-use result_numbers::outcome_number;
-use rules::{Kind, Outcome};
-use wire::put;
-
-// The first status word, which is the status now; 0 where there is none.
-fn status_now(status: &[u32]) -> u32
-    ensures { result ≡ get_or status.now 0 0 }
-{
-    if 0 < status.len() {
-        return status[0];
-    }
-    0
-}
+use rules::{Kind, Outcome, Refusal};
+use wire::{item_or, put};
 
 // Writes the ACK where an answer is asked for, and gives its length. That to get status has the
 // record and the status now, every other is the header alone.
@@ -39,7 +28,7 @@ fn write_ack(
     records: &[u32],
     status: &[u32],
 ) -> usize
-    ensures { Puts (answer_in board.now records.now Ok message.now status.now)
+    ensures { Puts (answer_in board.now records.now OK message.now status.now)
         answer.old answer.new result }
 {
     if !answer_asked(message) {
@@ -48,7 +37,8 @@ fn write_ack(
     let kind = kind_in(message);
     if let Kind::GetStatus = kind {
         let state = record_at(board, records, row_in(board, message));
-        let bytes = status_answer(message, state, status_now(status));
+        // The first status word is the status now.
+        let bytes = status_answer(message, state, item_or(status, 0, 0));
         return put(answer, &bytes);
     }
     let bytes = header(message, true);
@@ -66,6 +56,13 @@ fn write_nak(answer: &mut [u8], message: &[u8]) -> usize
     put(answer, &bytes)
 }
 
+// Whether the sender is told nothing of a refusal.
+fn is_silent(refusal: Refusal) -> bool
+    ensures { result ≡ silent (Err refusal) }
+{
+    matches!(refusal, Refusal::R1 | Refusal::R2 | Refusal::R3)
+}
+
 // Writes the answer where one is asked for and the outcome has one, and gives its length. A buffer
 // that is too short for the answer is left as it was; no outcome but R1, which has none, comes to that.
 // The outcome is tested before the flag, so that the compiler can join each refusal with its answer.
@@ -80,11 +77,10 @@ pub fn write_answer(
     ensures { Puts (answer_in board.now records.now outcome message.now status.now)
         answer.old answer.new result }
 {
-    let number = outcome_number(outcome);
-    if number == 0 {
+    let Err(refusal) = outcome else {
         return write_ack(board, answer, message, records, status);
-    }
-    if 100 < number {
+    };
+    if is_silent(refusal) {
         return 0;
     }
     write_nak(answer, message)

@@ -9,7 +9,7 @@ ghost use Rattle.record.specs.Memory.{Memories};
 ghost use Rattle.message_operation.specs.Operation.{alone, Carries};
 
 use message_fields::AUTH_BOOT_BYTES;
-use rules::Outcome;
+use rules::{Outcome, Refusal};
 
 // Authenticated boot: not offered on this general-purpose part.
 pub fn authenticated_boot(message: &[u8]) -> Outcome
@@ -18,7 +18,7 @@ pub fn authenticated_boot(message: &[u8]) -> Outcome
         (query channel message.now status room) m.records (alone result) }
 {
     if message.len() < AUTH_BOOT_BYTES {
-        return Outcome::N4;
+        return Err(Refusal::N4);
     }
-    Outcome::N5
+    Err(Refusal::N5)
 }

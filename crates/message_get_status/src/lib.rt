@@ -8,11 +8,10 @@ ghost use Rattle.record.specs.Memory.{memories};
 ghost use Rattle.rules.specs.declared.Kind.TheVariants.{GetStatus};
 ghost use Rattle.message_operation.specs.Operation.{alone, Carries};
 
-use access_rights::is_permitted;
-use board::{BoardMemory, ROWS};
+use board::BoardMemory;
 use message_fields::GET_STATUS_BYTES;
-use message_operation::row_in;
-use rules::Outcome;
+use message_operation::permitted_row;
+use rules::{Outcome, Refusal};
 
 // Get status: the sender is permitted, and there is a status word. No record changes.
 pub fn get_status(
@@ -26,18 +25,9 @@ pub fn get_status(
         (memories board.now access.now records)
         (query channel message.now status.now room) records (alone result) }
 {
-    if message.len() < GET_STATUS_BYTES {
-        return Outcome::N4;
+    permitted_row(board, access, channel, message, GET_STATUS_BYTES)?;
+    if status.is_empty() {
+        return Err(Refusal::R3);
     }
-    let row = row_in(board, message);
-    if ROWS <= row {
-        return Outcome::N6;
-    }
-    if !is_permitted(board, access, row, channel as u16) {
-        return Outcome::N7;
-    }
-    if status.len() == 0 {
-        return Outcome::R3;
-    }
-    Outcome::Ok
+    Ok(())
 }

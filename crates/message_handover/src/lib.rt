@@ -9,12 +9,12 @@ ghost use Rattle.rules.specs.Message.{query};
 ghost use Rattle.record.specs.Memory.{memories};
 ghost use Rattle.message_operation.specs.Operation.{alone, Carries};
 
-use access_rights::{is_controller, is_permitted};
-use board::{BoardMemory, ROWS};
+use access_rights::is_permitted;
+use board::BoardMemory;
 use message_fields::{HANDOVER_BYTES, NEW_HOST};
-use message_operation::row_in;
-use record::{RecordMemory, on_handover, record_at};
-use rules::Outcome;
+use message_operation::controlled;
+use record::{RecordMemory, on_handover};
+use rules::{Outcome, Refusal};
 use wire::byte_at;
 
 // Handover: the sender is the controller, and the new host is permitted. The new host controls.
@@ -29,21 +29,11 @@ pub fn handover(
         (memories board.now access.now records.old)
         (query channel message.now status room) records.new (alone result) }
 {
-    if message.len() < HANDOVER_BYTES {
-        return Outcome::N4;
-    }
-    let row = row_in(board, message);
-    if ROWS <= row {
-        return Outcome::N6;
-    }
-    let state = record_at(board, &records[..], row);
-    if !is_controller(state, channel) {
-        return Outcome::N7;
-    }
+    let named = controlled(board, &records[..], channel, message, HANDOVER_BYTES)?;
     let host = byte_at(message, NEW_HOST);
-    if !is_permitted(board, access, row, host as u16) {
-        return Outcome::N8;
+    if !is_permitted(board, access, named.row, u16::from(host)) {
+        return Err(Refusal::N8);
     }
-    on_handover(records, row, host);
-    Outcome::Ok
+    on_handover(records, named.row, host);
+    Ok(())
 }

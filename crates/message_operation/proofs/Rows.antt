@@ -8,18 +8,17 @@ use mathlib.Core.Logic.{⊎_elim}
 use lib.ListN.{length}
 use lib.Dec.{eqb}
 use borrow.Author.Tests.{lt-ltb, le-ltb, ltb-true, not-true, not-false}
+use Rattle.std.specs.Prelude.{Err, None, Option}
 use Rattle.rules.specs.declared.Kind.{Kind}
 use Rattle.rules.specs.declared.Kind.TheVariants.{Request, GetStatus, WaitStatus}
-use Rattle.rules.specs.declared.Outcome.{Outcome}
-use Rattle.rules.specs.declared.Outcome.TheVariants.{N4, N5, N6, N7, N8, Ok}
+use Rattle.rules.specs.declared.Refusal.TheVariants.{N4, N5, N6, N7, N8}
 use Rattle.rules.specs.declared.Record.{Record}
 use Rattle.rules.specs.declared.Role.{Role}
-use Rattle.rules.specs.declared.Role.TheVariants.{None}
 use Rattle.rules.specs.Table.{first_of}
 use Rattle.rules.specs.Board.{Board, rows, row_of, on_board, class_at, class_of, home_at}
 use Rattle.rules.specs.Role.{role_of}
 use Rattle.rules.specs.Message.{Query, size_of, is_kind, processor_of, subject_of}
-use Rattle.rules.specs.Outcome.{View, too_short, not_offered, sender_role, has_right, operands_good, words_missing, wait_failed, behind_type, by_words, from_N4, carried_out, outcome_number}
+use Rattle.rules.specs.Outcome.{Outcome, OK, View, too_short, not_offered, sender_role, has_right, operands_good, words_missing, wait_failed, behind_type, by_words, from_N4, carried_out, outcome_number}
 use Rattle.rules.specs.Effect.{effect_of}
 use Rattle.rules.specs.Answer.{ok_or, waited, tells_role}
 use Rattle.rules.specs.State.{own_of}
@@ -31,55 +30,37 @@ use Rattle.record.proofs.LentMemory.{store_same, word_stands, own_stands, own_st
 use Rattle.message_operation.specs.declared.Decision.{Decision}
 use Rattle.message_operation.specs.Operation.{subject_row, seen_in, memory_after, decision_on, alone, Carries}
 
--- ---- what a test of x says of the t that x is
-
-pub told_true : {x t : Bool} → x ≡ t → not x ≡ false → t ≡ true
-told_true is h = sym is ∙ not-false _ h
-
-pub told_false : {x t : Bool} → x ≡ t → not x ≡ true → t ≡ false
-told_false is h = sym is ∙ not-true _ h
-
--- ---- the board's rows, as the code tests them
-
-row_off : (b : Board) (p : ℕ) → rows ≤ row_of b p → on_board b p ≡ false
-unfolding on_board
-row_off b p h = le-ltb (row_of b p) rows h
-
-row_on : (b : Board) (p : ℕ) → row_of b p < rows → on_board b p ≡ true
-unfolding on_board
-row_on b p h = lt-ltb (row_of b p) rows h
-
 -- ---- the outcome
 
 module _ (k : Kind) (v : View) (q : Query) where
   abbrev outcome : Outcome
-  outcome = first_of Ok (from_N4 v q k)
+  outcome = first_of OK (from_N4 v q k)
 
-  is_N4 : too_short k q ≡ true → outcome ≡ N4
+  is_N4 : too_short k q ≡ true → outcome ≡ (Err N4)
   unfolding from_N4 behind_type first_of
   is_N4 short = cond-true _ _ short
 
-  is_N5 : too_short k q ≡ false → not_offered k ≡ true → outcome ≡ N5
+  is_N5 : too_short k q ≡ false → not_offered k ≡ true → outcome ≡ (Err N5)
   unfolding from_N4 behind_type first_of
   is_N5 whole closed = rw (whole, closed)
 
   module _ (whole : too_short k q ≡ false) (offered : not_offered k ≡ false) where
-    is_N6 : on_board v.board (subject_of q) ≡ false → outcome ≡ N6
+    is_N6 : on_board v.board (subject_of q) ≡ false → outcome ≡ (Err N6)
     unfolding from_N4 behind_type first_of
     is_N6 off = rw (whole, offered, off)
 
     module _ (on : on_board v.board (subject_of q) ≡ true) where
-      is-N7 : has_right k v q ≡ false → outcome ≡ N7
+      is-N7 : has_right k v q ≡ false → outcome ≡ (Err N7)
       unfolding from_N4 behind_type first_of
       is-N7 lacks = rw (whole, offered, on, lacks)
 
       module _ (right : has_right k v q ≡ true) where
-        is-N8 : operands_good k v q ≡ false → outcome ≡ N8
+        is-N8 : operands_good k v q ≡ false → outcome ≡ (Err N8)
         unfolding from_N4 behind_type first_of
         is-N8 wrong = rw (whole, offered, on, right, wrong)
 
         -- what is left are the rows on status words
-        by-words : operands_good k v q ≡ true → outcome ≡ first_of Ok (by_words q k)
+        by-words : operands_good k v q ≡ true → outcome ≡ first_of OK (by_words q k)
         unfolding from_N4 behind_type first_of
         by-words good = rw (whole, offered, on, right, good)
 
@@ -97,7 +78,7 @@ pub record Refused (b : Board) (k : Kind) (q : Query) (access : List ℕ) (state
 
 -- past N8: what is left are the rows on status words
 abbrev pub Admitted : Board → Kind → Query → List ℕ → Record → Type 0
-Admitted b k q access state = Comes b k q access state (first_of Ok (by_words q k))
+Admitted b k q access state = Comes b k q access state (first_of OK (by_words q k))
 
 -- past N6: the message is whole, the processor that it names has this row, and the record at hand is `state'`, which the rules see
 pub record Reached (b : Board) (k : Kind) (q : Query) (row : ℕ) (state state' : Record) : Type 0 where
@@ -112,36 +93,18 @@ pub record Loaded (b : Board) (k : Kind) (q : Query) (memory : List ℕ) (row : 
   pub reached : Reached b k q row state (record_at b memory (subject_row b q))
 
 module _ {b : Board} {k : Kind} {q : Query} {access : List ℕ} {state : Record} where
-  pub too_short_lem : length q.message < size_of k → Refused b k q access state N4
+  pub too_short_lem : too_short k q ≡ true → Refused b k q access state (Err N4)
   unfolding carried_out
-  too_short_lem short = record { comes = record { is = is_N4 k _ q (lt-ltb _ _ short) }; refused = refl; early = refl }
+  too_short_lem short = record { comes = record { is = is_N4 k _ q short }; refused = refl; early = refl }
 
-  pub not_offered_lem : size_of k ≤ length q.message → not_offered k ≡ true → Refused b k q access state N5
+  pub not_offered_lem : too_short k q ≡ false → not_offered k ≡ true → Refused b k q access state (Err N5)
   unfolding carried_out
-  not_offered_lem whole closed =
-      record { comes = record { is = is_N5 k _ q (le-ltb _ _ whole) closed }; refused = refl; early = refl }
+  not_offered_lem whole closed = record { comes = record { is = is_N5 k _ q whole closed }; refused = refl; early = refl }
 
-  module _ {row : ℕ} (whole : size_of k ≤ length q.message) (offered : not_offered k ≡ false)
-      (here : row ≡ row_of b (processor_of q.message)) where
-    pub off_board_lem : rows ≤ row → Refused b k q access state N6
-    unfolding carried_out subject_of
-    off_board_lem off =
-        record {
-          comes = record { is = is_N6 k _ q (le-ltb _ _ whole) offered (row_off b _ (rw here at off)) };
-          refused = refl;
-          early = refl;
-        }
-
-module _ {b : Board} {k : Kind} {q : Query} {row : ℕ} {state : Record} (whole : size_of k ≤ length q.message) (offered : not_offered k ≡ false)
-    (here : row ≡ row_of b (processor_of q.message)) (on : row < rows) where
-  pub reached : {state' : Record} → state ≡ state' → Reached b k q row state state'
-  unfolding subject_of
-  reached same =
-      record { whole = le-ltb _ _ whole; offered = offered; here = here; on = row_on b _ (rw here at on); same = same }
-
-  pub loaded_at : {memory : List ℕ} → state ≡ record_at b memory row → Loaded b k q memory row state
-  unfolding subject_of
-  loaded_at {memory} loaded = record { reached = reached (loaded ∙ ap (record_at b memory) here) }
+  pub off_board_lem : too_short k q ≡ false → not_offered k ≡ false → on_board b (subject_of q) ≡ false → Refused b k q access state (Err N6)
+  unfolding carried_out
+  off_board_lem whole offered off =
+      record { comes = record { is = is_N6 k _ q whole offered off }; refused = refl; early = refl }
 
 module _ {b : Board} {k : Kind} {q : Query} {row : ℕ} {state state' : Record} (r : Reached b k q row state state') where
   -- the class that the code finds by the row
@@ -158,37 +121,37 @@ module _ {b : Board} {k : Kind} {q : Query} {row : ℕ} {state state' : Record} 
               (subst (λ (n : ℕ). outcome k (view_with b access n state) q ≡ o) r.here is);
         }
 
-    pub lacks_right : {x : Bool} → x ≡ has_right k (view_with b access row state) q → not x ≡ true → Refused b k q access state' N7
+    pub lacks_right : {x : Bool} → x ≡ has_right k (view_with b access row state) q → x ≡ false → Refused b k q access state' (Err N7)
     unfolding carried_out
     lacks_right is lacks =
         record {
-          comes = as_seen (is-N7 k _ q r.whole r.offered r.on (told_false is lacks));
+          comes = as_seen (is-N7 k _ q r.whole r.offered r.on (sym is ∙ lacks));
           refused = refl;
           early = refl;
         }
 
-    module _ {x : Bool} (is : x ≡ has_right k (view_with b access row state) q) (has : not x ≡ false) where
-      pub wrong-operands : {y : Bool} → y ≡ operands_good k (view_with b access row state) q → not y ≡ true → Refused b k q access state' N8
+    module _ {x : Bool} (is : x ≡ has_right k (view_with b access row state) q) (has : x ≡ true) where
+      pub wrong-operands : {y : Bool} → y ≡ operands_good k (view_with b access row state) q → y ≡ false → Refused b k q access state' (Err N8)
       unfolding carried_out
       wrong-operands good wrong =
           record {
-            comes = as_seen (is-N8 k _ q r.whole r.offered r.on (told_true is has) (told_false good wrong));
+            comes = as_seen (is-N8 k _ q r.whole r.offered r.on (sym is ∙ has) (sym good ∙ wrong));
             refused = refl;
             early = refl;
           }
 
-      pub admitted : {y : Bool} → y ≡ operands_good k (view_with b access row state) q → not y ≡ false → Admitted b k q access state'
+      pub admitted : {y : Bool} → y ≡ operands_good k (view_with b access row state) q → y ≡ true → Admitted b k q access state'
       admitted good right =
-          as_seen (by-words k _ q r.whole r.offered r.on (told_true is has) (told_true good right))
+          as_seen (by-words k _ q r.whole r.offered r.on (sym is ∙ has) (sym good ∙ right))
 
 -- ---- the memory
 
 -- the record that was loaded is the one at that row
-loaded-is : {b : Board} {k : Kind} {q : Query} {memory : List ℕ} {row : ℕ} {state : Record} → Loaded b k q memory row state → state ≡ record_at b memory row
+pub loaded-is : {b : Board} {k : Kind} {q : Query} {memory : List ℕ} {row : ℕ} {state : Record} → Loaded b k q memory row state → state ≡ record_at b memory row
 loaded-is {b} {memory = memory} l = l.reached.same ∙ ap (record_at b memory) (sym l.reached.here)
 
 -- at one of the rows
-loaded-row : {b : Board} {k : Kind} {q : Query} {memory : List ℕ} {row : ℕ} {state : Record} → Loaded b k q memory row state → row < rows
+pub loaded-row : {b : Board} {k : Kind} {q : Query} {memory : List ℕ} {row : ℕ} {state : Record} → Loaded b k q memory row state → row < rows
 unfolding on_board
 loaded-row {b} {q = q} l = subst⁻¹ (λ (n : ℕ). n < rows) l.reached.here (ltb-true (row_of b (subject_of q)) rows l.reached.on)
 
@@ -223,7 +186,7 @@ module _ {k : Kind} {m : Memories} {q : Query} where
   -- OK has its effect: for the types that look at no status word
   module _ {row : ℕ} {state next : Record} {memory' : List ℕ} (get : is_kind k GetStatus ≡ false) (wait : is_kind k WaitStatus ≡ false)
       (l : Loaded (board_held m) k q m.records row state) (comes : Admitted (board_held m) k q m.access (record_seen m q)) (effect : next ≡ effect_of k q state) where
-    carries : memory' ≡ with_record (board_held m) m.records row next → Comes-to k m q memory' Ok
+    carries : memory' ≡ with_record (board_held m) m.records row next → Comes-to k m q memory' OK
     unfolding memory_after carried_out view_in first_of by_words words_missing wait_failed
     carries stored =
         record {
@@ -234,13 +197,13 @@ module _ {k : Kind} {m : Memories} {q : Query} where
         }
 
     -- an effect that keeps the control word is stored in what is the processor's own, and one that keeps that in the control word
-    pub carries_own : ((r : Record) → (effect_of k q r).control ≡ r.control) → memory' ≡ with_own m.records row (own_of next) → Comes-to k m q memory' Ok
+    pub carries_own : ((r : Record) → (effect_of k q r).control ≡ r.control) → memory' ≡ with_own m.records row (own_of next) → Comes-to k m q memory' OK
     carries_own keeps stored =
         carries
         (stored ∙ own_stored (board_held m) m.records row next (ap (λ (r : Record). r.control) effect ∙ keeps state ∙ ap (λ (r : Record). r.control) (loaded-is l) ∙ word_stands (board_held m) m.records row))
 
     pub carries_control : ((r : Record) → own_of (effect_of k q r) ≡ own_of r) → memory' ≡ with_control_word m.records (home_at (board_held m) row) next.control
-        → Comes-to k m q memory' Ok
+        → Comes-to k m q memory' OK
     carries_control keeps stored =
         carries (stored ∙ control_stored (board_held m) m.records row next (ap own_of effect ∙ keeps state ∙ ap own_of (loaded-is l) ∙ own_stands (board_held m) m.records row (loaded-row l)))
 
@@ -265,19 +228,19 @@ module _ {k : Kind} {m : Memories} {q : Query} where
 
 module _ {m : Memories} {records' : List ℕ} {q : Query} {o : Outcome} where
   -- it carries the role from N7 on
-  requests : {role : Role} {d : Decision} → Comes-to Request m q records' o
+  requests : {role : Option Role} {d : Decision} → Comes-to Request m q records' o
       → role ≡ cond (ok_or N7 o) (sender_role (seen_in m q) q) None
       → d ≡ record { outcome = o; checks = 0; micros = 0; role = role }
       → Carries Request m q records' d
   unfolding decision_on waited tells_role
   requests comes told is =
-      decided (is ∙ ap (λ (x : Role). record { outcome = o; checks = 0; micros = 0; role = x }) told) comes
+      decided (is ∙ ap (λ (x : Option Role). record { outcome = o; checks = 0; micros = 0; role = x }) told) comes
 
   pub requests-early : {d : Decision} → Comes-to Request m q records' o → ok_or N7 o ≡ false → d ≡ alone o → Carries Request m q records' d
   requests-early comes early is = requests comes (sym (cond-false _ None early)) is
 
   -- the role that the code has found by the row
-  pub requests-late : {row : ℕ} {state : Record} {role : Role} {d : Decision} → Loaded (board_in m.board) Request q m.records row state
+  pub requests-late : {row : ℕ} {state : Record} {role : Option Role} {d : Decision} → Loaded (board_in m.board) Request q m.records row state
       → Comes-to Request m q records' o
       → ok_or N7 o ≡ true
       → role ≡ role_of (board_in m.board) (entry_at m.access row) q.channel

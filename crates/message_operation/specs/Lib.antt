@@ -1,2 +1,3 @@
 -- What one message type comes to.
 pub mod Operation
+pub mod Admission

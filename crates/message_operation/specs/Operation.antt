@@ -1,15 +1,12 @@
 -- What a message of one type comes to once the rows R1 to N3 of "Outcomes" are passed: what is decided by the rows from N4 on, and the effect of OK
 -- in the lent record memory.
-use Rattle.std.specs.Prelude.{ℕ, ◌≡◌, cond, List}
+use Rattle.std.specs.Prelude.{ℕ, ◌≡◌, cond, List, None}
 use Rattle.rules.specs.declared.Kind.{Kind}
-use Rattle.rules.specs.declared.Outcome.{Outcome}
-use Rattle.rules.specs.declared.Outcome.TheVariants.{Ok}
-use Rattle.rules.specs.declared.Role.TheVariants.{None}
 use Rattle.rules.specs.Table.{Line, first_of}
 use Rattle.rules.specs.Board.{Board, row_of}
 use Rattle.rules.specs.Message.{Query, subject_of, wait_in}
 use Rattle.rules.specs.Wait.{checks_of, micros_of}
-use Rattle.rules.specs.Outcome.{View, sender_role, from_N4, carried_out}
+use Rattle.rules.specs.Outcome.{Outcome, OK, View, sender_role, from_N4, carried_out}
 use Rattle.rules.specs.Effect.{effect_of}
 use Rattle.rules.specs.Answer.{waited, tells_role}
 use Rattle.board.specs.Memory.{board_in}
@@ -46,7 +43,7 @@ alone o = record { outcome = o; checks = 0; micros = 0; role = None }
 
 -- what rows of the outcome table decide of a message of type k, whatever the memories hold, and the record memory afterwards
 pub record Decides (table : View → Query → Kind → List (Line Outcome)) (k : Kind) (m : Memories) (q : Query) (records' : List ℕ) (r : Decision) : Type 0 where
-  pub decision : r ≡ decision_on k (seen_in m q) q (first_of Ok (table (seen_in m q) q k))
+  pub decision : r ≡ decision_on k (seen_in m q) q (first_of OK (table (seen_in m q) q k))
   pub records : records' ≡ memory_after (board_in m.board) k r.outcome m.records q
 
 -- what a function promises that carries out messages of type k: the rows from N4 on. What it is not lent may hold anything

@@ -9,11 +9,10 @@ ghost use Rattle.rules.specs.Message.{query};
 ghost use Rattle.record.specs.Memory.{memories};
 ghost use Rattle.message_operation.specs.Operation.{alone, Carries};
 
-use access_rights::is_controller;
-use board::{BoardMemory, ROWS};
+use board::BoardMemory;
 use message_fields::RELEASE_BYTES;
-use message_operation::row_in;
-use record::{RecordMemory, on_release, record_at};
+use message_operation::controlled;
+use record::{RecordMemory, on_release};
 use rules::Outcome;
 
 // Release: the sender is the controller. The processor is free, and the other fields are kept.
@@ -27,17 +26,7 @@ pub fn release(
         (memories board.now access records.old)
         (query channel message.now status room) records.new (alone result) }
 {
-    if message.len() < RELEASE_BYTES {
-        return Outcome::N4;
-    }
-    let row = row_in(board, message);
-    if ROWS <= row {
-        return Outcome::N6;
-    }
-    let state = record_at(board, &records[..], row);
-    if !is_controller(state, channel) {
-        return Outcome::N7;
-    }
-    on_release(records, row);
-    Outcome::Ok
+    let named = controlled(board, &records[..], channel, message, RELEASE_BYTES)?;
+    on_release(records, named.row);
+    Ok(())
 }

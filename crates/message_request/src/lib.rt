@@ -11,11 +11,11 @@ ghost use Rattle.message_operation.specs.Operation.{Carries};
 
 use access::role_of;
 use access_rights::may_request;
-use board::{BoardMemory, ROWS};
+use board::BoardMemory;
 use message_fields::REQUEST_BYTES;
-use message_operation::{Decision, row_in, with_role};
+use message_operation::{Decision, row_named, with_role};
 use record::{RecordMemory, on_request, record_at};
-use rules::{Outcome, Role};
+use rules::Refusal;
 
 // Request: the processor is free and the sender permitted, or the sender is its recovery master. The
 // sender controls. From N7 on its role is told.
@@ -30,18 +30,15 @@ pub fn request(
         (memories board.now access.now records.old)
         (query channel message.now status room) records.new result }
 {
-    if message.len() < REQUEST_BYTES {
-        return with_role(Outcome::N4, Role::None);
-    }
-    let row = row_in(board, message);
-    if ROWS <= row {
-        return with_role(Outcome::N6, Role::None);
-    }
+    let row = match row_named(board, message, REQUEST_BYTES) {
+        Ok(row) => row,
+        Err(refusal) => return with_role(Err(refusal), None),
+    };
     let state = record_at(board, &records[..], row);
-    let role = role_of(board, access, row, channel as u16);
+    let role = role_of(board, access, row, u16::from(channel));
     if !may_request(role, state) {
-        return with_role(Outcome::N7, role);
+        return with_role(Err(Refusal::N7), role);
     }
     on_request(records, row, channel);
-    with_role(Outcome::Ok, role)
+    with_role(Ok(()), role)
 }

@@ -11,13 +11,12 @@ ghost use Rattle.rules.specs.Message.{query};
 ghost use Rattle.record.specs.Memory.{memories};
 ghost use Rattle.message_operation.specs.Operation.{alone, Carries};
 
-use access_rights::is_controller;
-use board::{BoardMemory, ROWS, class_at};
+use board::{BoardMemory, class_at};
 use flags::{CONFIG, flags_good, keeps_vector, new_word};
 use message_fields::{CONFIG_CLEAR, CONFIG_SET, SET_CONFIG_BYTES, VECTOR_HIGH, VECTOR_LOW};
-use message_operation::row_in;
-use record::{RecordMemory, record_at, store_own};
-use rules::{Outcome, Record};
+use message_operation::controlled;
+use record::{RecordMemory, store_own};
+use rules::{Outcome, Record, Refusal};
 use wire::u32_at;
 
 // Whether a boot vector may be stored: an R5's has bits 6 to 0 zero.
@@ -39,24 +38,14 @@ fn with_config(low: u32, high: u32, set: u32, clear: u32, state: Record) -> Reco
     ensures { result ≡ with_config low high set clear state }
 {
     let config = new_word(state.config, set, clear);
-    let tallies = state.tallies;
     if keeps_vector(clear) {
-        return Record {
-            controller: state.controller,
-            low: state.low,
-            high: state.high,
-            config,
-            control: state.control,
-            tallies,
-        };
+        return Record { config, ..state };
     }
     Record {
-        controller: state.controller,
         low,
         high,
         config,
-        control: state.control,
-        tallies,
+        ..state
     }
 }
 
@@ -72,24 +61,18 @@ pub fn set_config(
         (memories board.now access records.old)
         (query channel message.now status room) records.new (alone result) }
 {
-    if message.len() < SET_CONFIG_BYTES {
-        return Outcome::N4;
-    }
-    let row = row_in(board, message);
-    if ROWS <= row {
-        return Outcome::N6;
-    }
-    let state = record_at(board, &records[..], row);
-    if !is_controller(state, channel) {
-        return Outcome::N7;
-    }
+    let named = controlled(board, &records[..], channel, message, SET_CONFIG_BYTES)?;
     let low = u32_at(message, VECTOR_LOW);
     let set = u32_at(message, CONFIG_SET);
     let clear = u32_at(message, CONFIG_CLEAR);
-    if !config_good(class_at(board, row), low, set, clear) {
-        return Outcome::N8;
+    if !config_good(class_at(board, named.row), low, set, clear) {
+        return Err(Refusal::N8);
     }
     let high = u32_at(message, VECTOR_HIGH);
-    store_own(records, row, with_config(low, high, set, clear, state));
-    Outcome::Ok
+    store_own(
+        records,
+        named.row,
+        with_config(low, high, set, clear, named.state),
+    );
+    Ok(())
 }

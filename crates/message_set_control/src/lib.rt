@@ -9,13 +9,12 @@ ghost use Rattle.rules.specs.Message.{query};
 ghost use Rattle.record.specs.Memory.{memories};
 ghost use Rattle.message_operation.specs.Operation.{alone, Carries};
 
-use access_rights::is_controller;
-use board::{BoardMemory, ROWS, class_at};
+use board::{BoardMemory, class_at};
 use flags::{CONTROL, flags_good, new_word};
 use message_fields::{CONTROL_CLEAR, CONTROL_SET, SET_CONTROL_BYTES};
-use message_operation::row_in;
-use record::{RecordMemory, record_at, store_control};
-use rules::Outcome;
+use message_operation::controlled;
+use record::{RecordMemory, store_control};
+use rules::{Outcome, Refusal};
 use wire::u32_at;
 
 // Set control: the sender is the controller of the processor that it names, and the flags may be set.
@@ -30,22 +29,13 @@ pub fn set_control(
         (memories board.now access records.old)
         (query channel message.now status room) records.new (alone result) }
 {
-    if message.len() < SET_CONTROL_BYTES {
-        return Outcome::N4;
-    }
-    let row = row_in(board, message);
-    if ROWS <= row {
-        return Outcome::N6;
-    }
-    let state = record_at(board, &records[..], row);
-    if !is_controller(state, channel) {
-        return Outcome::N7;
-    }
+    let named = controlled(board, &records[..], channel, message, SET_CONTROL_BYTES)?;
     let set = u32_at(message, CONTROL_SET);
     let clear = u32_at(message, CONTROL_CLEAR);
-    if !flags_good(class_at(board, row), CONTROL, set, clear) {
-        return Outcome::N8;
+    if !flags_good(class_at(board, named.row), CONTROL, set, clear) {
+        return Err(Refusal::N8);
     }
-    store_control(board, records, row, new_word(state.control, set, clear));
-    Outcome::Ok
+    let control = new_word(named.state.control, set, clear);
+    store_control(board, records, named.row, control);
+    Ok(())
 }

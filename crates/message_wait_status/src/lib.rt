@@ -2,20 +2,19 @@
 // rows above are passed when it is called. No record changes, so it gets none.
 #![tactic(auto)]
 
-ghost use Rattle.std.specs.Prelude.{List, ℕ, ◌+◌, ◌*◌, ◌≡◌, cond};
-ghost use Rattle.rules.specs.declared.Outcome.TheVariants.{N9, Ok};
+ghost use Rattle.std.specs.Prelude.{List, ℕ, None, Err, ◌+◌, ◌*◌, ◌≡◌, cond};
+ghost use Rattle.rules.specs.declared.Refusal.TheVariants.{N9};
+ghost use Rattle.rules.specs.Outcome.{OK};
 ghost use Rattle.rules.specs.declared.Kind.TheVariants.{WaitStatus};
-ghost use Rattle.rules.specs.declared.Role.TheVariants.{None};
 ghost use Rattle.rules.specs.Wait.{ran_out, checks_of, micros_of};
 ghost use Rattle.rules.specs.Message.{query};
 ghost use Rattle.record.specs.Memory.{memories};
 ghost use Rattle.message_operation.specs.Operation.{Carries};
 
-use access_rights::is_permitted;
-use board::{BoardMemory, ROWS};
+use board::BoardMemory;
 use message_fields::WAIT_STATUS_BYTES;
-use message_operation::{Decision, outcome_alone, row_in};
-use rules::{Outcome, Role, Wait};
+use message_operation::{Decision, outcome_alone, permitted_row};
+use rules::{Refusal, Wait};
 use wait::{ending_check, wait_good, wait_in};
 
 // The microseconds of a wait: at most 65,280.
@@ -28,7 +27,7 @@ fn micros(before: u8, delay: u8, checks: u8) -> u32
 // What a wait comes to, OK or N9, with the checks that it really took.
 fn waited(w: Wait, status: &[u32]) -> Decision
     ensures { result ≡ record {
-      outcome = cond (ran_out w status.now) N9 Ok;
+      outcome = cond (ran_out w status.now) (Err N9) OK;
       checks = checks_of w status.now;
       micros = micros_of w status.now;
       role = None;
@@ -37,17 +36,17 @@ fn waited(w: Wait, status: &[u32]) -> Decision
     let ended = ending_check(w, status);
     if ended == 0 {
         return Decision {
-            outcome: Outcome::N9,
+            outcome: Err(Refusal::N9),
             checks: w.waits as u32,
             micros: micros(w.before, w.delay, w.waits),
-            role: Role::None,
+            role: None,
         };
     }
     Decision {
-        outcome: Outcome::Ok,
+        outcome: Ok(()),
         checks: ended as u32,
         micros: micros(w.before, w.delay, ended as u8),
-        role: Role::None,
+        role: None,
     }
 }
 
@@ -64,22 +63,15 @@ pub fn wait_status(
         (memories board.now access.now records)
         (query channel message.now status.now room) records result }
 {
-    if message.len() < WAIT_STATUS_BYTES {
-        return outcome_alone(Outcome::N4);
-    }
-    let row = row_in(board, message);
-    if ROWS <= row {
-        return outcome_alone(Outcome::N6);
-    }
-    if !is_permitted(board, access, row, channel as u16) {
-        return outcome_alone(Outcome::N7);
+    if let Err(refusal) = permitted_row(board, access, channel, message, WAIT_STATUS_BYTES) {
+        return outcome_alone(Err(refusal));
     }
     let w = wait_in(message);
     if !wait_good(w) {
-        return outcome_alone(Outcome::N8);
+        return outcome_alone(Err(Refusal::N8));
     }
-    if status.len() < w.waits as usize {
-        return outcome_alone(Outcome::R3);
+    if status.len() < usize::from(w.waits) {
+        return outcome_alone(Err(Refusal::R3));
     }
     waited(w, status)
 }

@@ -1,9 +1,7 @@
 -- The calls as a C program sees them: what a call told, which meets the promise of the inner call, and its numbers in the words.
 use Rattle.std.specs.Prelude.{ℕ, ◌≡◌, List, [], ◌∷◌}
-use Rattle.rules.specs.declared.BlockReport.{BlockReport}
 use Rattle.rules.specs.declared.Report.{Report}
-use Rattle.rules.specs.declared.Verdict.{Verdict}
-use Rattle.rules.specs.Verdict.{verdict_number}
+use Rattle.rules.specs.Verdict.{Verdict, reported_host, verdict_number}
 use Rattle.rules.specs.Role.{role_number}
 use Rattle.rules.specs.Outcome.{outcome_number}
 use Rattle.rules.specs.Call.{Lent}
@@ -27,10 +25,10 @@ pub record ExportedList (board access bytes access' : List ℕ) (r : ℕ) : Type
 
 -- the loop word is the host of B8, and 0 with any other verdict
 pub record ExportedBlock (board access : List ℕ) (major minor : ℕ) (bytes access' loop' : List ℕ) (r : ℕ) : Type 0 where
-  pub told : BlockReport
+  pub told : Verdict
   pub meets : BlockCall board access major minor bytes access' told
-  pub number : TellsVerdict r told.verdict
-  pub host : loop' ≡ told.host ∷ []
+  pub number : TellsVerdict r told
+  pub host : loop' ≡ reported_host told ∷ []
 
 -- checks, microseconds, bytes written and the role's number, in this order
 abbrev pub report_words : Report → List ℕ

@@ -16,7 +16,7 @@ use board_setup::start;
 use call_message::message;
 use call_offer::{offer_block, offer_board, offer_list};
 use record::RecordMemory;
-use result_numbers::{outcome_number, role_number, verdict_number};
+use result_numbers::{outcome_number, reported_host, role_number, verdict_number};
 
 // Fills the board memory with document 01's board, which stands until a description is taken.
 pub fn pomrozek_start(board: &mut BoardMemory)
@@ -54,10 +54,8 @@ pub fn pomrozek_block(
     ensures { ExportedBlock board.now access.old major minor
         block.now access.new found.new result }
 {
-    let report = offer_block(board, access, major, minor, block);
-    let words = &mut found[..];
-    words[0] = report.host as u32;
-    let verdict = report.verdict;
+    let verdict = offer_block(board, access, major, minor, block);
+    *found = [u32::from(reported_host(verdict))];
     verdict_number(verdict)
 }
 
@@ -87,12 +85,11 @@ pub fn pomrozek_message(
         records.new answer.new report.new result }
 {
     let told = message(board, access, records, channel, request, status, answer);
-    let words = &mut report[..];
-    words[0] = told.checks;
-    words[1] = told.micros;
-    words[2] = narrow(told.written);
-    let role = told.role;
-    words[3] = role_number(role);
-    let outcome = told.outcome;
-    outcome_number(outcome)
+    *report = [
+        told.checks,
+        told.micros,
+        narrow(told.written),
+        role_number(told.role),
+    ];
+    outcome_number(told.outcome)
 }

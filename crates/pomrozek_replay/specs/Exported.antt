@@ -47,10 +47,11 @@ memories_with l stand = session_memories l.board l.access l.records l.words stan
 
 pub record ExportedFeed (l : Lent) (piece out : List ℕ) (l' : Lent) (out' progress' : List ℕ) (r : ℕ) : Type 0 where
   pub told : Fed
+  pub standing : ℕ
   pub meets :
       FeedCall (memories_with l (standing_in l.stream)) l.carry (held_in l.stream) (over_in l.stream) piece 0 out
-      (memories_with l' told.words) l'.carry out' told
-  pub stream : l'.stream ≡ told.held ∷ told.words ∷ over_word told.over ∷ []
+      (memories_with l' standing) l'.carry out' told
+  pub stream : l'.stream ≡ told.held ∷ standing ∷ over_word told.over ∷ []
   pub progress : progress' ≡ told.at ∷ told.used ∷ []
   pub number : r ≡ fed_number told.over told.full
 

@@ -16,6 +16,7 @@ use board_setup::start;
 use record::{RECORD_WORDS, RecordMemory};
 use recording_feed::{CarryBuffer, feed, finish};
 use recording_fields::{STATUS_WORDS, StatusWords};
+use recording_step::SessionMemory;
 
 // A stream between two calls: how many bytes the carry holds, how many status words stand, and whether the
 // recording is over, 0 for not.
@@ -34,46 +35,21 @@ const OVER: u32 = 2;
 fn held_in(stream: &StreamMemory) -> usize
     ensures { result ≡ held_in stream.now }
 {
-    let words = &stream[..];
-    wide(words[0])
+    stream[0] as usize
 }
 
 // How many status words stand, of which there are no more than the memory holds.
 fn standing_in(stream: &StreamMemory) -> u8
     ensures { result ≡ standing_in stream.now }
 {
-    let words = &stream[..];
-    let count = words[1];
-    let limit = STATUS_WORDS as u32;
-    if count < limit {
-        return count as u8;
-    }
-    STATUS_WORDS as u8
+    stream[1].min(STATUS_WORDS as u32) as u8
 }
 
 // Whether the recording is over.
 fn is_over(stream: &StreamMemory) -> bool
     ensures { result ≡ over_in stream.now }
 {
-    let words = &stream[..];
-    words[2] != 0
-}
-
-// A word of the stream as a number of bytes.
-fn wide(word: u32) -> usize
-    ensures { result ≡ word }
-{
-    word as usize
-}
-
-// Whether the recording is over, as a word of the stream.
-fn over_word(over: bool) -> u32
-    ensures { result ≡ over_word over }
-{
-    if over {
-        return 1;
-    }
-    0
+    stream[2] != 0
 }
 
 // Stores a stream: how many bytes the carry holds, 1,023 at most, how many words stand, and whether it is over.
@@ -81,20 +57,14 @@ fn store_stream(stream: &mut StreamMemory, held: usize, words: u8, over: bool)
     requires { held ≤ carry_size }
     ensures { stream.new ≡ held ∷ words ∷ over_word over ∷ [] }
 {
-    let over_now = over_word(over);
-    let state = &mut stream[..];
-    state[0] = held as u32;
-    state[1] = words as u32;
-    state[2] = over_now;
+    *stream = [held as u32, u32::from(words), u32::from(over)];
 }
 
 // Stores how many bytes of the piece were taken, and how many were printed.
 fn store_progress(progress: &mut [u64; 2], taken: usize, printed: usize)
     ensures { progress.new ≡ taken ∷ printed ∷ [] }
 {
-    let numbers = &mut progress[..];
-    numbers[0] = taken as u64;
-    numbers[1] = printed as u64;
+    *progress = [taken as u64, printed as u64];
 }
 
 // The number of what a call leaves.
@@ -148,12 +118,16 @@ pub fn pomrozek_replay_feed(
         out.new progress.new result }
 {
     let held = held_in(stream);
-    let count = standing_in(stream);
     let over = is_over(stream);
-    let fed = feed(
-        board, access, records, words, count, carry, held, over, piece, 0, out,
-    );
-    store_stream(stream, fed.held, fed.words, fed.over);
+    let mut session = SessionMemory {
+        board,
+        access,
+        records,
+        words,
+        standing: standing_in(stream),
+    };
+    let fed = feed(&mut session, carry, held, over, piece, 0, out);
+    store_stream(stream, fed.held, session.standing, fed.over);
     store_progress(progress, fed.at, fed.used);
     call_number(fed.over, fed.full)
 }
@@ -171,9 +145,7 @@ pub fn pomrozek_replay_end(
     let held = held_in(stream);
     let over = is_over(stream);
     let ended = finish(carry, held, over, out);
-    let over_now = over_word(ended.over);
-    let state = &mut stream[..];
-    state[2] = over_now;
+    stream[2] = u32::from(ended.over);
     store_progress(progress, 0, ended.used);
     call_number(ended.over, ended.full)
 }

@@ -6,11 +6,10 @@ use mathlib.Core.Bool.{Bool, true}
 use mathlib.Core.List.{List}
 use mathlib.Core.Logic.{⊎_elim}
 use Rattle.rules.specs.Board.{row_of}
-use Rattle.rules.specs.declared.Verdict.{Verdict}
 use Rattle.rules.specs.Description.{board_verdict, described}
-use Rattle.rules.specs.Verdict.{accepted}
+use Rattle.rules.specs.Verdict.{Verdict, accepted}
 use Rattle.rules.specs.AccessList.{verdict_of}
-use Rattle.rules.specs.Block.{list_part, block_verdict, reported_host}
+use Rattle.rules.specs.Block.{list_part, block_verdict}
 use Rattle.rules.specs.Message.{Query, subject_of}
 use Rattle.rules.specs.Outcome.{View}
 use Rattle.rules.specs.Effect.{record_after}
@@ -104,10 +103,9 @@ next-kept s (message lent) = ap kept (message_kept s (query_of lent)) ∙ twice 
 -- the line that a recording's call prints
 pub line_kept : (s : State) (c : Call) → line_of (kept s) c ≡ line_of s c
 unfolding line_of
-line_kept s (offer (board bytes)) = ap (λ (v : Verdict). offer_line board_word v 0) (verdict_kept s (board bytes))
-line_kept s (offer (list bytes)) = ap (λ (v : Verdict). offer_line list_word v 0) (verdict_kept s (list bytes))
-line_kept s (offer (block major minor bytes)) =
-    ap (λ (v : Verdict). offer_line block_word v (reported_host v bytes)) (verdict_kept s (block major minor bytes))
+line_kept s (offer (board bytes)) = ap (offer_line board_word) (verdict_kept s (board bytes))
+line_kept s (offer (list bytes)) = ap (offer_line list_word) (verdict_kept s (list bytes))
+line_kept s (offer (block major minor bytes)) = ap (offer_line block_word) (verdict_kept s (block major minor bytes))
 line_kept s (message lent) = ap (λ (a : Answer). message_line a.report a.bytes) (answer_kept s (query_of lent))
 
 -- what memories hold is what they keep of it

@@ -2,3 +2,4 @@
 pub mod LentMemory
 pub mod Counted
 pub mod Kept
+pub mod Changes

@@ -5,7 +5,7 @@
 mod store;
 mod tally;
 
-ghost use Rattle.std.specs.Prelude.{◌<◌, ◌≡◌, get_or};
+ghost use Rattle.std.specs.Prelude.{◌<◌, ◌≡◌};
 ghost use Rattle.rules.specs.Board.{home_at};
 ghost use Rattle.board.specs.Memory.{board_in};
 ghost use Rattle.record.specs.Memory.{record_size, own_at, control_place, record_at};
@@ -14,6 +14,7 @@ use board::{BoardMemory, ROWS, home_at};
 use rules::{Record, Tallies};
 pub use store::{store_control, store_own};
 pub use tally::{on_handover, on_release, on_request};
+use wire::item_or;
 
 // The record memory: eight words for each row, then a control word for each home.
 pub const RECORD_WORDS: usize = 288;
@@ -44,44 +45,35 @@ const CONTROLS: usize = 256;
 pub(crate) fn control_place(board: &BoardMemory, row: u8) -> usize
     ensures { (result ≡ control_place (home_at (board_in board.now) row)) × (result < record_size) }
 {
-    CONTROLS + home_at(board, row) as usize
-}
-
-// The word at place `i`; past the end there are zeros.
-fn word_at(records: &[u32], i: usize) -> u32
-    ensures { result ≡ get_or records.now i 0 }
-{
-    if i < records.len() {
-        return records[i];
-    }
-    0
+    CONTROLS + usize::from(home_at(board, row))
 }
 
 // The tallies at `row`.
 fn tallies_at(records: &[u32], row: u8) -> Tallies
     ensures { result ≡ (own_at records.now row).tallies }
 {
-    let at = ROW_WORDS * (row as usize);
+    let at = ROW_WORDS * usize::from(row);
     Tallies {
-        grants: word_at(records, at + GRANTS),
-        overrides: word_at(records, at + OVERRIDES),
-        handovers: word_at(records, at + HANDOVERS),
-        releases: word_at(records, at + RELEASES),
+        grants: item_or(records, at + GRANTS, 0),
+        overrides: item_or(records, at + OVERRIDES, 0),
+        handovers: item_or(records, at + HANDOVERS, 0),
+        releases: item_or(records, at + RELEASES, 0),
     }
 }
 
 // The record at `row`. At a row that is not there all is 0 but the control word.
+#[tactic(auto, using(crate::proofs::LentMemory::load_here, crate::proofs::LentMemory::load_past), unfolding(rules::specs::State::free_own, rules::specs::Tally::no_tallies))]
 pub fn record_at(board: &BoardMemory, records: &[u32], row: u8) -> Record
     ensures { result ≡ record_at (board_in board.now) records.now row }
 {
-    let control = word_at(records, control_place(board, row));
+    let control = item_or(records, control_place(board, row), 0);
     if row < ROWS {
-        let at = ROW_WORDS * (row as usize);
+        let at = ROW_WORDS * usize::from(row);
         return Record {
-            controller: word_at(records, at),
-            low: word_at(records, at + LOW),
-            high: word_at(records, at + HIGH),
-            config: word_at(records, at + CONFIG),
+            controller: item_or(records, at, 0),
+            low: item_or(records, at + LOW, 0),
+            high: item_or(records, at + HIGH, 0),
+            config: item_or(records, at + CONFIG, 0),
             control,
             tallies: tallies_at(records, row),
         };

@@ -13,11 +13,12 @@ use board::{BoardMemory, ROWS};
 use rules::Record;
 
 // Puts all of a record but its control word at `row`. A row that is not there is left alone.
+#[tactic(auto, unfolding(crate::specs::Memory::with_own))]
 pub fn store_own(records: &mut RecordMemory, row: u8, state: Record)
     ensures { records.new ≡ with_own records.old row (own_of state) }
 {
     if row < ROWS {
-        let at = ROW_WORDS * (row as usize);
+        let at = ROW_WORDS * usize::from(row);
         records[at] = state.controller;
         records[at + LOW] = state.low;
         records[at + HIGH] = state.high;

@@ -1,13 +1,12 @@
 -- How far a call has come: the lines that are printed stand at the start of the output, and what is left of the call is a turn of its own.
 use Prim.Native.Nat.{ℕ, ◌+◌, ◌-◌, ◌≤◌, ◌<◌}
-use mathlib.Core.Path.{◌≡◌, refl, sym, ap, ap₂, ◌∙◌, subst, subst⁻¹}
+use mathlib.Core.Path.{◌≡◌, refl, sym, ap, ap₂, ◌∙◌, subst⁻¹}
 use mathlib.Core.Bool.{true, false}
 use mathlib.Core.List.{List, ◌++◌, append_assoc}
 use native.Mathlib.Nat.{sub-zero, zero-add}
 use native.Mathlib.Omega.{arith}
 use lib.ListN.{length, take, drop, length-append, length-drop}
 use lib.Seq.{take_at, drop_at, drop-drop, length-take-le}
-use lib.Dec.{leb}
 use borrow.Author.Tests.{le-leb}
 use borrow.Rule.Slice.PartMut.{mid_of, put_mid}
 use Rattle.rules.specs.Answer.{buffer_after}
@@ -18,7 +17,7 @@ use Rattle.record.proofs.Kept.{twice}
 use Rattle.recording_texts.specs.Texts.{line_size, laid, has_room, printed}
 use Rattle.recording_stream.specs.Turn.{Turn, behind_line, turn, turn_from}
 use Rattle.recording_stream.proofs.Turn.{turn-carries}
-use Rattle.recording_step.specs.SessionMemory.{SessionMemories, session_memories, session_in, kept_session}
+use Rattle.recording_step.specs.SessionMemory.{SessionMemories, session_in, kept_session}
 use Rattle.recording_step.specs.Fields.{FieldPlayed}
 use Rattle.recording_step.proofs.Fields.{session_kept}
 use Rattle.recording_feed.specs.declared.cursor.Cursor.{Cursor}
@@ -191,7 +190,7 @@ module _ (m₀ m : SessionMemories) (carry₀ : List ℕ) (held₀ : ℕ) (piece
   kept-behind : (k : ℕ) → drop (used + k) out ≡ drop (used + k) out₀
   kept-behind k = sym (drop-drop k used out) ∙ ap (drop k) reached.behind ∙ drop-drop k used out₀
 
-  reach_told : FeedCall m₀ carry₀ held₀ false piece at₀ out₀ m carry' out' r
+  pub reach_told : FeedCall m₀ carry₀ held₀ false piece at₀ out₀ m carry' out' r
   unfolding turn_from behind_line
   reach_told =
       let told = stopped.told in
@@ -216,12 +215,3 @@ module _ (m₀ m : SessionMemories) (carry₀ : List ℕ) (held₀ : ℕ) (piece
             ∙ ap kept_session (sym stopped.session)
             ∙ ap (λ (u : Turn). u.session) (sym turns-are);
       }
-
-  -- the words stand as the call says
-  pub reach_words : (stand : ℕ) → stand ≡ m.stand
-      → FeedCall m₀ carry₀ held₀ false piece at₀ out₀ (session_memories m.board m.access m.records m.words stand) carry' out' r
-  reach_words stand is =
-      subst⁻¹
-      (λ (k : ℕ). FeedCall m₀ carry₀ held₀ false piece at₀ out₀ (session_memories m.board m.access m.records m.words k) carry' out' r)
-      is
-      reach_told

@@ -6,7 +6,7 @@ use mathlib.Core.List.{List, [], ◌++◌}
 use mathlib.Core.Logic.{⊎_elim}
 use native.Mathlib.Nat.{add-zero, zero-add}
 use native.Mathlib.Omega.{arith}
-use lib.ListN.{length, take, drop, length-append, length-drop, length-take, drop_of_length-le}
+use lib.ListN.{length, take, drop, length-append, length-drop, drop_of_length-le}
 use lib.Seq.{take_all, take_at, length-take-le}
 use lib.Dec.{leb, lit≤}
 use borrow.Author.Tests.{le-leb, leb-true, leb-false, lt-ltb, le-ltb}
@@ -88,7 +88,7 @@ pub pending-length : (carry piece : List ℕ) (held at : ℕ) → held ≤ lengt
 pending-length carry piece held at fits =
     length-append (take held carry) (drop at piece) ∙ ap₂ (λ (x y : ℕ). x + y) (length-take-le held carry fits) (length-drop at piece)
 
-module _ (carry piece out : List ℕ) (held at used words : ℕ) (s : Session) where
+module _ (carry piece out : List ℕ) (held at used : ℕ) (s : Session) where
   abbrev bytes : List ℕ
   bytes = pending carry held piece at
 
@@ -98,12 +98,12 @@ module _ (carry piece out : List ℕ) (held at used words : ℕ) (s : Session) w
   -- no record is there: the rest of the piece goes to the carry
   pub told_waits : (carry' : List ℕ) (moved : ℕ) → length carry ≡ carry_size → is_whole (found bytes) ≡ false → is_bad (found bytes) ≡ false
       → Kept carry held piece at carry' moved
-      → Stopped s t piece out used carry' out (record { used = used; held = held + moved; at = at + moved; words = words; over = false; full = false })
+      → Stopped s t piece out used carry' out (record { used = used; held = held + moved; at = at + moved; over = false; full = false })
   unfolding waiting
   told_waits carry' moved size other fine kept =
       let is : t ≡ waiting s bytes false = turn-waits (length out - used) s bytes (ap₂ ◌||◌ other fine) in
       subst⁻¹
-      (λ (x : Turn). Stopped s x piece out used carry' out (record { used = used; held = held + moved; at = at + moved; words = words; over = false; full = false }))
+      (λ (x : Turn). Stopped s x piece out used carry' out (record { used = used; held = held + moved; at = at + moved; over = false; full = false }))
       is
       (record {
         told =
@@ -122,11 +122,11 @@ module _ (carry piece out : List ℕ) (held at used words : ℕ) (s : Session) w
 
   -- a record waits for room
   pub told_stops : (is_whole (found bytes) || is_bad (found bytes)) ≡ true → length out - used < line_size → held ≤ carry_size → at ≤ length piece
-      → Stopped s t piece out used carry out (record { used = used; held = held; at = at; words = words; over = false; full = true })
+      → Stopped s t piece out used carry out (record { used = used; held = held; at = at; over = false; full = true })
   unfolding no_room
   told_stops decided few fits there =
       subst⁻¹
-      (λ (x : Turn). Stopped s x piece out used carry out (record { used = used; held = held; at = at; words = words; over = false; full = true }))
+      (λ (x : Turn). Stopped s x piece out used carry out (record { used = used; held = held; at = at; over = false; full = true }))
       (turn-stops (length out - used) s bytes decided few)
       (record {
         told =
@@ -145,11 +145,11 @@ module _ (carry piece out : List ℕ) (held at used words : ℕ) (s : Session) w
 
   -- a bad record, and its line
   pub told_breaks : (out' : List ℕ) (printed : ℕ) → is_bad (found bytes) ≡ true → line_size ≤ length out - used → printed ≡ length bad_line → out' ≡ laid out used bad_line
-      → Stopped s t piece out used carry out' (record { used = used + printed; held = 0; at = length piece; words = words; over = true; full = false })
+      → Stopped s t piece out used carry out' (record { used = used + printed; held = 0; at = length piece; over = true; full = false })
   unfolding broken
   told_breaks out' printed bad room count over =
       subst⁻¹
-      (λ (x : Turn). Stopped s x piece out used carry out' (record { used = used + printed; held = 0; at = length piece; words = words; over = true; full = false }))
+      (λ (x : Turn). Stopped s x piece out used carry out' (record { used = used + printed; held = 0; at = length piece; over = true; full = false }))
       (turn-breaks (length out - used) s bytes bad room)
       (record {
         told =
@@ -169,10 +169,10 @@ module _ (carry piece out : List ℕ) (held at used words : ℕ) (s : Session) w
 -- ---- a recording that is over, and places past the end
 
 pub over_told : (m : SessionMemories) (carry piece out : List ℕ) (held at : ℕ) {over : Bool} → over ≡ true
-    → FeedCall m carry held over piece at out m carry out (record { used = 0; held = 0; at = length piece; words = m.stand; over = true; full = false })
+    → FeedCall m carry held over piece at out m carry out (record { used = 0; held = 0; at = length piece; over = true; full = false })
 unfolding turn_from waiting
 over_told m carry piece out held at is =
-    subst⁻¹ (λ (x : Bool). FeedCall m carry held x piece at out m carry out (record { used = 0; held = 0; at = length piece; words = m.stand; over = true; full = false })) is
+    subst⁻¹ (λ (x : Bool). FeedCall m carry held x piece at out m carry out (record { used = 0; held = 0; at = length piece; over = true; full = false })) is
     (record {
       told =
           record {

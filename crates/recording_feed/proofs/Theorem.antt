@@ -11,9 +11,9 @@ use Rattle.rules.specs.Table.{first_of}
 use Rattle.rules.specs.Recording.{found, is_whole, is_bad, Field, Session, carry_out, lines_of, last_line, split, transcript}
 use Rattle.rules.proofs.Tests.{clash, or_false_left}
 use Rattle.rules.proofs.Recording.{transcript-none}
-use Rattle.recording_texts.specs.Texts.{line_size, laid}
+use Rattle.recording_texts.specs.Texts.{line_size}
 use Rattle.recording_stream.specs.Stream.{joined_pieces}
-use Rattle.recording_stream.specs.Turn.{Turn, turn, turn_from, End, end_from}
+use Rattle.recording_stream.specs.Turn.{Turn, turn, turn_from, end_from}
 use Rattle.recording_stream.proofs.Turn.{turn-prints, turn-ends}
 use Rattle.recording_step.specs.SessionMemory.{SessionMemories, session_in, kept_session}
 use Rattle.recording_step.proofs.Kept.{carry_alike}
@@ -21,7 +21,7 @@ use Rattle.recording_feed.specs.declared.Fed.{Fed}
 use Rattle.recording_feed.specs.declared.Ended.{Ended}
 use Rattle.recording_feed.specs.Pending.{pending}
 use Rattle.recording_feed.specs.Feed.{FeedCall, EndCall}
-use Rattle.recording_feed.specs.Statement.{FedTrace, again, next, over, end, TranscriptOfTheCode}
+use Rattle.recording_feed.specs.Statement.{again, next, over, end, TranscriptOfTheCode}
 use Rattle.recording_feed.proofs.Moves.{used-up}
 use Rattle.recording_feed.proofs.Reach.{laid-first, kept-twice}
 

@@ -4,6 +4,10 @@ use Rattle.rules.specs.Recording.{found}
 use Rattle.recording_feed.specs.declared.cursor.Next.{Next}
 use Rattle.recording_feed.specs.Pending.{pending, sight_of}
 
+-- the carry has that many bytes, and the place is within the piece
+abbrev pub InBounds : List ℕ → ℕ → List ℕ → ℕ → Type 0
+InBounds carry held piece at = (held ≤ length carry) × (at ≤ length piece)
+
 -- `count` bytes of the piece went to the carry, and the bytes that are there are the same
 pub record Moved (carry : List ℕ) (held : ℕ) (piece : List ℕ) (at : ℕ) (carry' : List ℕ) (count : ℕ) : Type 0 where
   pub same : pending carry' (held + count) piece (at + count) ≡ pending carry held piece at

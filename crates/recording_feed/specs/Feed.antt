@@ -4,7 +4,7 @@ use Rattle.rules.specs.Answer.{buffer_after}
 use Rattle.rules.specs.Recording.{Session}
 use Rattle.recording_texts.specs.Texts.{laid}
 use Rattle.recording_stream.specs.Stream.{carry_size}
-use Rattle.recording_stream.specs.Turn.{Turn, turn_from, End, end_from}
+use Rattle.recording_stream.specs.Turn.{Turn, turn_from, end_from}
 use Rattle.recording_step.specs.SessionMemory.{SessionMemories, session_in, kept_session}
 use Rattle.recording_feed.specs.declared.Fed.{Fed}
 use Rattle.recording_feed.specs.declared.Place.{Place}

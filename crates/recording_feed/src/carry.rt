@@ -3,8 +3,7 @@
 ghost use Rattle.std.specs.Prelude.{◌≡◌, ◌+◌, ◌-◌, ◌≤◌, min, length, take, drop};
 ghost use Rattle.rules.specs.Bytes.{field_head};
 ghost use Rattle.recording_texts.specs.Texts.{laid};
-ghost use Rattle.recording_stream.specs.Stream.{carry_size};
-ghost use Rattle.recording_feed.specs.Carry.{Settled, Kept};
+ghost use Rattle.recording_feed.specs.Carry.{InBounds, Settled, Kept};
 
 use recording_fields::length_good;
 use wire::{FIELD_HEAD, put, u16_at};
@@ -14,35 +13,25 @@ pub const CARRY_BYTES: usize = 1023;
 
 pub type CarryBuffer = [u8; CARRY_BYTES];
 
-// The smaller of two numbers.
-pub(crate) fn fewer(a: usize, b: usize) -> usize
-    ensures { result ≡ min a b }
-{
-    if a < b {
-        return a;
-    }
-    b
-}
-
 // Fills the carry, which holds `held` bytes, up to `size` bytes from the piece, as far as the piece goes, and
 // gives how many were copied.
-fn fill(carry: &mut [u8], held: usize, size: usize, piece: &[u8], at: usize) -> usize
-    requires { (held ≤ length carry.old) × (size ≤ length carry.old) × (at ≤ length piece.now) }
+fn fill(carry: &mut CarryBuffer, held: usize, size: usize, piece: &[u8], at: usize) -> usize
+    requires { (size ≤ length carry.old) × InBounds carry.old held piece.now at }
     ensures value { result ≡ min (size - held) (length piece.now - at) }
     ensures carry_after { carry.new ≡ laid carry.old held (take result (drop at piece.now)) }
 {
     if size <= held {
         return 0;
     }
-    let count = fewer(size - held, piece.len() - at);
+    let count = (size - held).min(piece.len() - at);
     let end = at + count;
     put(&mut carry[held..], &piece[at..end])
 }
 
 // Completes the body of the record whose tag and length the carry holds, where these are good, as far as the
 // piece goes. Gives how many bytes were copied.
-fn settle_body(carry: &mut [u8], held: usize, piece: &[u8], at: usize) -> usize
-    requires { (field_head ≤ held) × (held ≤ length carry.old) × (length carry.old ≡ carry_size) × (at ≤ length piece.now) }
+fn settle_body(carry: &mut CarryBuffer, held: usize, piece: &[u8], at: usize) -> usize
+    requires { (field_head ≤ held) × InBounds carry.old held piece.now at }
     ensures { Settled carry.old held piece.now at carry.new result }
 {
     let length = u16_at(carry, 1);
@@ -54,8 +43,8 @@ fn settle_body(carry: &mut [u8], held: usize, piece: &[u8], at: usize) -> usize
 
 // Completes the record whose beginning the carry holds, as far as the piece goes: first its tag and length,
 // then its body. Gives how many bytes were copied.
-pub(crate) fn settle(carry: &mut [u8], held: usize, piece: &[u8], at: usize) -> usize
-    requires { (held ≤ length carry.old) × (length carry.old ≡ carry_size) × (at ≤ length piece.now) }
+pub(crate) fn settle(carry: &mut CarryBuffer, held: usize, piece: &[u8], at: usize) -> usize
+    requires { InBounds carry.old held piece.now at }
     ensures { Settled carry.old held piece.now at carry.new result }
 {
     let first = fill(carry, held, FIELD_HEAD, piece, at);
@@ -68,8 +57,8 @@ pub(crate) fn settle(carry: &mut [u8], held: usize, piece: &[u8], at: usize) -> 
 
 // Takes the rest of the piece, in which no record is whole and none is bad, to the carry, and gives how many
 // bytes were copied.
-pub(crate) fn keep(carry: &mut [u8], held: usize, piece: &[u8], at: usize) -> usize
-    requires { (held ≤ length carry.old) × (at ≤ length piece.now) × (held + (length piece.now - at) ≤ length carry.old) }
+pub(crate) fn keep(carry: &mut CarryBuffer, held: usize, piece: &[u8], at: usize) -> usize
+    requires { (at ≤ length piece.now) × (held + (length piece.now - at) ≤ length carry.old) }
     ensures { Kept carry.old held piece.now at carry.new result }
 {
     let rest = piece.len() - at;

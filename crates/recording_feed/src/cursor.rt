@@ -1,12 +1,11 @@
 // Where a record stands: in the carry or in the piece. What comes next is found first, as a cursor; the part
 // of one of the two lent slices is taken by it. The rules are specs/Pending.antt.
-ghost use Rattle.std.specs.Prelude.{◌≡◌, ◌-◌, ◌≤◌, length, take, drop};
+ghost use Rattle.std.specs.Prelude.{◌≡◌, ◌≤◌, length, drop};
 ghost use Rattle.rules.specs.Recording.{found};
-ghost use Rattle.recording_stream.specs.Stream.{carry_size};
 ghost use Rattle.recording_feed.specs.Pending.{part_by, sight_in};
-ghost use Rattle.recording_feed.specs.Carry.{Comes};
+ghost use Rattle.recording_feed.specs.Carry.{InBounds, Comes};
 
-use crate::carry::settle;
+use crate::carry::{CarryBuffer, settle};
 use recording_fields::find;
 use rules::Found;
 use wire::FIELD_HEAD;
@@ -30,40 +29,21 @@ pub enum Sight {
     More,
 }
 
-// The bytes from `start` up to `end`, as far as they are there.
-fn between(bytes: &[u8], start: usize, end: usize) -> &[u8]
-    ensures { result.now ≡ take (end - start) (drop start bytes.now) }
-{
-    if bytes.len() < start {
-        return &bytes[..0];
-    }
-    if end < start {
-        return &bytes[..0];
-    }
-    if bytes.len() < end {
-        return &bytes[start..];
-    }
-    &bytes[start..end]
-}
-
-// The part of the carry or of the piece that a cursor names.
+// The part of the carry or of the piece that a cursor names, as far as its bytes are there.
 pub(crate) fn part<'a>(carry: &'a [u8], piece: &'a [u8], cursor: Cursor) -> &'a [u8]
     ensures { result.now ≡ part_by carry.now piece.now cursor }
 {
-    let start = cursor.start;
-    let end = cursor.end;
-    if cursor.carried {
-        return between(carry, start, end);
-    }
-    between(piece, start, end)
+    let bytes = if cursor.carried { carry } else { piece };
+    let end = cursor.end.min(bytes.len());
+    bytes.get(cursor.start..end).unwrap_or(&[])
 }
 
 // What stands at place `at` of the carry or of the piece.
+#[inline(always)]
 fn seen(bytes: &[u8], at: usize, carried: bool) -> Sight
     ensures { result ≡ sight_in carried at (found (drop at bytes.now)) }
 {
-    let found = find(bytes, at);
-    match found {
+    match find(bytes, at) {
         Found::Whole(tag, length) => {
             let start = at + FIELD_HEAD;
             Sight::Record(
@@ -91,8 +71,8 @@ pub struct Next {
 
 // Finds what comes next: in the piece where nothing is held, as most often, and else in the carry, to which the
 // record that begins there is completed first.
-pub(crate) fn next_record(carry: &mut [u8], held: usize, piece: &[u8], at: usize) -> Next
-    requires { (held ≤ length carry.old) × (length carry.old ≡ carry_size) × (at ≤ length piece.now) }
+pub(crate) fn next_record(carry: &mut CarryBuffer, held: usize, piece: &[u8], at: usize) -> Next
+    requires { InBounds carry.old held piece.now at }
     ensures { Comes carry.old held piece.now at carry.new result }
 {
     if held == 0 {

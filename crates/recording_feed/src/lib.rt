@@ -6,36 +6,32 @@
 mod carry;
 mod cursor;
 
-ghost use Rattle.std.specs.Prelude.{◌≡◌, Bool, false, ◌+◌, ◌-◌, ◌≤◌, ◌<◌, min, length, drop};
+ghost use Rattle.std.specs.Prelude.{◌≡◌, Bool, false, ◌+◌, ◌-◌, ◌≤◌, ◌<◌, length, drop};
 ghost use Rattle.rules.specs.Answer.{buffer_after};
 ghost use Rattle.rules.specs.Recording.{Session, found, is_whole, is_bad, last_line};
 ghost use Rattle.recording_texts.specs.Texts.{line_size};
-ghost use Rattle.recording_stream.specs.Stream.{carry_size};
 ghost use Rattle.recording_stream.specs.Turn.{turn};
-ghost use Rattle.recording_step.specs.SessionMemory.{session_memories};
-ghost use Rattle.recording_feed.specs.Pending.{pending, broken_in};
+ghost use Rattle.recording_step.specs.SessionMemory.{memories_in, SameMemory};
+ghost use Rattle.recording_feed.specs.Pending.{pending};
+ghost use Rattle.recording_feed.specs.Carry.{InBounds};
 ghost use Rattle.recording_feed.specs.Feed.{Stopped, Passed, FeedCall, EndCall};
 
-use crate::carry::{fewer, keep};
+use crate::carry::keep;
 use crate::cursor::{Sight, next_record, part};
-use access::AccessMemory;
-use board::BoardMemory;
 pub use carry::{CARRY_BYTES, CarryBuffer};
-use record::RecordMemory;
-use recording_fields::{StatusWords, find};
-use recording_step::play_field;
+use recording_fields::find;
+use recording_step::SessionMemory;
 use recording_texts::{LINE_BYTES, bad_line, cut_line};
 use rules::Found;
 use wire::{move_down, put};
 
 // What a call leaves: the bytes of the output that it used, how many bytes the carry holds, how far the piece
-// is used up, how many status words stand, whether the recording is over, and whether a record waits for room.
+// is used up, whether the recording is over, and whether a record waits for room.
 #[derive(Clone, Copy)]
 pub struct Fed {
     pub used: usize,
     pub held: usize,
     pub at: usize,
-    pub words: u8,
     pub over: bool,
     pub full: bool,
 }
@@ -49,33 +45,20 @@ pub struct Ended {
     pub full: bool,
 }
 
-// Whether a bad record is in sight.
-fn is_broken(sight: Sight) -> bool
-    ensures { result ≡ broken_in sight }
-{
-    match sight {
-        Sight::Record(_, _) => false,
-        Sight::Broken => true,
-        Sight::More => false,
-    }
-}
-
 // Ends a call where no whole record comes next, with `used` bytes of the output printed. The rest of the piece
 // goes to the carry; behind a bad record nothing is looked at.
 fn stop(
     bad: bool,
-    carry: &mut [u8],
+    carry: &mut CarryBuffer,
     held: usize,
     piece: &[u8],
     at: usize,
     out: &mut [u8],
     used: usize,
-    words: u8,
 ) -> Fed
-    requires held_in_bounds { (held ≤ length carry.old) × (length carry.old ≡ carry_size) × (at ≤ length piece.now) × (used ≤ length out.old) }
+    requires held_in_bounds { (used ≤ length out.old) × InBounds carry.old held piece.now at }
     requires at_value { (is_whole (found (pending carry.old held piece.now at)) ≡ false) × (bad ≡ is_bad (found (pending carry.old held piece.now at))) }
-    ensures words_value { result.words ≡ words }
-    ensures stopped { (s : Session) →
+    ensures { (s : Session) →
         Stopped s (turn (length out.old - used) s (pending carry.old held piece.now at))
         piece.now out.old used carry.new out.new result }
 {
@@ -85,7 +68,6 @@ fn stop(
             used,
             held: held + moved,
             at: at + moved,
-            words,
             over: false,
             full: false,
         };
@@ -95,7 +77,6 @@ fn stop(
             used,
             held,
             at,
-            words,
             over: false,
             full: true,
         };
@@ -105,7 +86,6 @@ fn stop(
         used: used + printed,
         held: 0,
         at: piece.len(),
-        words,
         over: true,
         full: false,
     }
@@ -120,7 +100,7 @@ pub struct Place {
 
 // Passes over a record that ends at `end` of the carry or of the piece. What else the carry holds moves to its
 // start: nothing, as long as only this crate writes to it.
-fn skip(carry: &mut [u8], held: usize, at: usize, carried: bool, end: usize) -> Place
+fn skip(carry: &mut CarryBuffer, held: usize, at: usize, carried: bool, end: usize) -> Place
     requires { held ≤ length carry.old }
     ensures { Passed carry.old held at carried end carry.new result }
 {
@@ -133,24 +113,20 @@ fn skip(carry: &mut [u8], held: usize, at: usize, carried: bool, end: usize) -> 
 
 // Carries out every record that is whole and for whose line there is room.
 fn feed_all(
-    board: &mut BoardMemory,
-    access: &mut AccessMemory,
-    records: &mut RecordMemory,
-    words: &mut StatusWords,
-    count: u8,
-    carry: &mut [u8],
+    session: &mut SessionMemory,
+    carry: &mut CarryBuffer,
     held: usize,
     piece: &[u8],
     at: usize,
     out: &mut [u8],
 ) -> Fed
-    requires { (held ≤ length carry.old) × (length carry.old ≡ carry_size) × (at ≤ length piece.now) }
-    ensures { FeedCall (session_memories board.old access.old records.old words.old count)
+    requires { InBounds carry.old held piece.now at }
+    ensures same_memory { SameMemory session.old session.new }
+    ensures fed { FeedCall (memories_in session.old)
         carry.old held false piece.now at out.old
-        (session_memories board.new access.new records.new words.new result.words)
+        (memories_in session.new)
         carry.new out.new result }
 {
-    let mut stand = count;
     let mut kept = held;
     let mut next = at;
     let mut used = 0;
@@ -158,33 +134,21 @@ fn feed_all(
         let comes = next_record(carry, kept, piece, next);
         kept = comes.held;
         next = comes.at;
-        let sight = comes.sight;
-        let Sight::Record(tag, cursor) = sight else {
-            return stop(is_broken(sight), carry, kept, piece, next, out, used, stand);
+        let Sight::Record(tag, cursor) = comes.sight else {
+            let bad = matches!(comes.sight, Sight::Broken);
+            return stop(bad, carry, kept, piece, next, out, used);
         };
         if out.len() - used < LINE_BYTES {
             return Fed {
                 used,
                 held: kept,
                 at: next,
-                words: stand,
                 over: false,
                 full: true,
             };
         }
         let body = part(carry, piece, cursor);
-        let played = play_field(
-            board,
-            access,
-            records,
-            words,
-            stand,
-            tag,
-            body,
-            &mut out[used..],
-        );
-        used += played.line;
-        stand = played.words;
+        used += session.play_field(tag, body, &mut out[used..]);
         let place = skip(carry, kept, next, cursor.carried, cursor.end);
         kept = place.held;
         next = place.at;
@@ -210,11 +174,7 @@ fn last_line(found: Found, out: &mut [u8]) -> usize
 // and for whose line there is room, and prints to the start of `out`. Any content is taken; of `held` and `at`
 // no more than there is. Once the recording is over nothing is done.
 pub fn feed(
-    board: &mut BoardMemory,
-    access: &mut AccessMemory,
-    records: &mut RecordMemory,
-    words: &mut StatusWords,
-    count: u8,
+    session: &mut SessionMemory,
     carry: &mut CarryBuffer,
     held: usize,
     over: bool,
@@ -222,9 +182,10 @@ pub fn feed(
     at: usize,
     out: &mut [u8],
 ) -> Fed
-    ensures { FeedCall (session_memories board.old access.old records.old words.old count)
+    ensures same_memory { SameMemory session.old session.new }
+    ensures fed { FeedCall (memories_in session.old)
         carry.old held over piece.now at out.old
-        (session_memories board.new access.new records.new words.new result.words)
+        (memories_in session.new)
         carry.new out.new result }
 {
     if over {
@@ -232,16 +193,13 @@ pub fn feed(
             used: 0,
             held: 0,
             at: piece.len(),
-            words: count,
             over: true,
             full: false,
         };
     }
-    let kept = fewer(held, CARRY_BYTES);
-    let next = fewer(at, piece.len());
-    feed_all(
-        board, access, records, words, count, carry, kept, piece, next, out,
-    )
+    let kept = held.min(CARRY_BYTES);
+    let next = at.min(piece.len());
+    feed_all(session, carry, kept, piece, next, out)
 }
 
 // Announces the end: where the carry holds a record that is not whole, `cut record` goes to the start of `out`.
@@ -263,9 +221,8 @@ pub fn finish(carry: &CarryBuffer, held: usize, over: bool, out: &mut [u8]) -> E
             full: true,
         };
     }
-    let kept = fewer(held, CARRY_BYTES);
-    let bytes = &carry[..];
-    let used = last_line(find(&bytes[..kept], 0), out);
+    let kept = held.min(CARRY_BYTES);
+    let used = last_line(find(&carry[..kept], 0), out);
     Ended {
         used,
         over: true,

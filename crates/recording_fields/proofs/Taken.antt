@@ -1,10 +1,12 @@
 -- The status words of a body: how many, and which.
 use Prim.Native.Nat.{ℕ, zero, suc, ◌+◌, ◌*◌, ◌/◌, ◌≤◌, ◌<◌, min}
-use mathlib.Core.Path.{◌≡◌, refl, sym, ap, ◌∙◌}
+use mathlib.Core.Path.{◌≡◌, refl, sym, ap, ap₂, ◌∙◌}
 use mathlib.Core.List.{List, ◌++◌}
 use native.Mathlib.Nat.{add-zero, add-suc, suc-add, zero-add, not-suc-le-zero, le_of_suc-le-suc}
-use lib.ListN.{length, get_or, set, take, drop, length-take}
-use lib.Seq.{take-length, get_or-take, paste-suc}
+use native.Mathlib.Omega.{arith}
+use lib.ListN.{length, get_or, set, take, drop, length-take, length-drop, length-append, get_or-append}
+use lib.Seq.{take-length, get_or-take, paste-suc, drop-drop, drop-append_seam}
+use Rattle.std.proofs.lemmas.List.{get_or-drop}
 use Rattle.rules.specs.Bytes.{u32_at}
 use Rattle.rules.specs.Answer.{buffer_after}
 use Rattle.rules.specs.Recording.{word_limit, words_from, words_in}
@@ -32,6 +34,18 @@ taken_at body i few h =
     get_or-take word_limit (words_from body 0 (length body / 4)) i 0 few
     ∙ words_from_at body 0 (length body / 4) i h
     ∙ ap (λ (k : ℕ). u32_at body (4 * k)) (zero-add i)
+
+-- the four bytes that come are the word at its place, and those behind them are left
+pub word_at : (body rest bytes more : List ℕ) (k : ℕ) → rest ≡ drop (4 * k) body → rest ≡ bytes ++ more → length bytes ≡ 4
+    → (4 * k + 4 ≤ length body) × (u32_at bytes 0 ≡ u32_at body (4 * k)) × (more ≡ drop (4 * suc k) body)
+word_at body rest bytes more k from is size = (
+  omega (arith, ap length (sym from ∙ is), length-drop (4 * k) body, length-append bytes more),
+  rw (at 0 (omega arith), at 1 (omega arith), at 2 (omega arith), at 3 (omega arith), add-zero),
+  sym (drop-append_seam bytes more) ∙ ap₂ drop size (sym is ∙ from) ∙ drop-drop 4 (4 * k) body ∙ ap (λ (n : ℕ). drop n body) (omega arith),
+)
+  where
+    at : (j : ℕ) → j < 4 → get_or bytes j 0 ≡ get_or body (4 * k + j) 0
+    at j h = sym (get_or-append bytes more 0 j (omega arith)) ∙ ap (λ (l : List ℕ). get_or l j 0) (sym is ∙ from) ∙ get_or-drop (4 * k) body j 0
 
 -- a word is put behind those that stand at the start of the memory
 pub next_word : (held s : List ℕ) (i : ℕ) → suc i ≤ length held → suc i ≤ length s

@@ -7,6 +7,7 @@ use rules::Found;
 use wire::{Tagged, tagged_at};
 
 // What stands at place `at` of the bytes. A bad tag is found alone, a bad length before the body.
+#[inline(always)]
 pub fn find(bytes: &[u8], at: usize) -> Found
     ensures { result ≡ found (drop at bytes.now) }
 {

@@ -27,11 +27,10 @@ const BODY_LIMIT: u16 = 512;
 pub(crate) fn tag_good(tag: u8) -> bool
     ensures { result ≡ tag_good tag }
 {
-    (tag == TAG_LIST)
-        | (tag == TAG_STATUS)
-        | (tag == TAG_MESSAGE)
-        | (tag == TAG_BLOCK)
-        | (tag == TAG_BOARD)
+    matches!(
+        tag,
+        TAG_LIST | TAG_STATUS | TAG_MESSAGE | TAG_BLOCK | TAG_BOARD
+    )
 }
 
 // Whether a field of this tag may have this length; no length is good for any other tag. A message is

@@ -18,16 +18,8 @@ pub fn take_words(body: &[u8], words: &mut StatusWords) -> usize
     ensures upper_bound { result ≤ word_limit }
     ensures words_after { words.new ≡ buffer_after (words_in body.now) words.old }
 {
-    let memory = &mut words[..];
-    let whole = body.len() / 4;
-    let mut i = 0;
-    while i < whole {
-        if i == STATUS_WORDS {
-            return i;
-        }
-        let at = 4 * i;
-        memory[i] = joined(body[at], body[at + 1], body[at + 2], body[at + 3]);
-        i += 1;
+    for (i, bytes) in body.chunks_exact(4).take(STATUS_WORDS).enumerate() {
+        words[i] = joined(bytes[0], bytes[1], bytes[2], bytes[3]);
     }
-    i
+    STATUS_WORDS.min(body.len() / 4)
 }

@@ -11,18 +11,16 @@ use message_answer::ANSWER_BYTES;
 use recording_texts::{LINE_BYTES, digit_count, hex_digit, outcome_name};
 use rules::{Outcome, Report};
 
-// Lays `bytes` over the line.
-fn append(line: &mut [u8], at: usize, bytes: &[u8]) -> usize
+// Lays `bytes` over the line. By a loop: `copy_from_slice` would make the archive for recordings need `memmove`.
+pub(crate) fn append(line: &mut [u8], at: usize, bytes: &[u8]) -> usize
     requires { at + length bytes.now ≤ length line.old }
     ensures value { result ≡ at + length bytes.now }
     ensures line_after { line.new ≡ laid line.old at bytes.now }
 {
-    let mut i = 0;
-    while i < bytes.len() {
-        line[at + i] = bytes[i];
-        i += 1;
+    for (i, byte) in bytes.iter().enumerate() {
+        line[at + i] = *byte;
     }
-    at + i
+    at + bytes.len()
 }
 
 // Lays the decimal digits of a number over the line, from the last down to the first.
@@ -32,9 +30,7 @@ fn lay_digits(line: &mut [u8], at: usize, number: u32, count: usize)
     ensures { line.new ≡ laid line.old at (decimal_of number) }
 {
     let mut rest = number;
-    let mut i = count;
-    while 0 < i {
-        i -= 1;
+    for i in (0..count).rev() {
         line[at + i] = 48 + (rest % 10) as u8;
         rest /= 10;
     }
@@ -46,13 +42,11 @@ fn append_hex(line: &mut [u8], at: usize, bytes: &[u8]) -> usize
     ensures value { result ≡ at + length (hex_of bytes.now) }
     ensures line_after { line.new ≡ laid line.old at (hex_of bytes.now) }
 {
-    let mut i = 0;
-    while i < bytes.len() {
-        line[at + 2 * i] = hex_digit(bytes[i] / 16);
-        line[at + 2 * i + 1] = hex_digit(bytes[i]);
-        i += 1;
+    for (i, byte) in bytes.iter().enumerate() {
+        line[at + 2 * i] = hex_digit(*byte / 16);
+        line[at + 2 * i + 1] = hex_digit(*byte);
     }
-    at + 2 * i
+    at + 2 * bytes.len()
 }
 
 // Lays a number in decimal over the line, and a space behind it.

@@ -8,16 +8,15 @@ use lib.ListN.{length, take, drop, length-take}
 use lib.Seq.{take-append_seam}
 use lib.Dec.{leb}
 use borrow.Author.Tests.{le-leb}
-use Rattle.rules.specs.declared.BlockReport.{BlockReport}
 use Rattle.rules.specs.declared.Report.{Report}
-use Rattle.rules.specs.declared.Verdict.{Verdict}
+use Rattle.rules.specs.Verdict.{Verdict}
 use Rattle.rules.specs.Description.{board_verdict}
 use Rattle.rules.specs.AccessList.{verdict_of}
-use Rattle.rules.specs.Block.{block_verdict, reported_host}
+use Rattle.rules.specs.Block.{block_verdict}
 use Rattle.rules.specs.Message.{Query, largest_answer}
 use Rattle.rules.specs.Answer.{buffer_after, report_of}
 use Rattle.rules.specs.State.{listed, Records, State, stored}
-use Rattle.rules.specs.Call.{board, list, verdict_to, after_message, answer_to, Lent, query_of, next}
+use Rattle.rules.specs.Call.{board, list, block, verdict_to, after_message, answer_to, Lent, query_of, next}
 use Rattle.rules.specs.Recording.{abi_major, abi_minor, lent_in, list_call, message_call, block_call, board_call, list_word, block_word, board_word, offer_line, message_line, line_of}
 use Rattle.rules.proofs.Tests.{cond-true}
 use Rattle.board.specs.Memory.{board_in}
@@ -63,35 +62,31 @@ module _ (m : Memories) (line line' : List ℕ) (n : ℕ) (room : line_size ≤ 
   module _ (body : List ℕ) where
     pub board_played : (board' : List ℕ) (told : Verdict)
         → BoardCall m.board m.access body board' told
-        → PrintedOffer line board_word told 0 line' n
+        → PrintedOffer line board_word told line' n
         → CallPlayed m (board_call body) line (memories board' m.access m.records) line' n
     unfolding line_of verdict_to
     board_played board' told call shown =
         let is : told ≡ verdict_to (state_of m) (board body) = call.verdict ∙ ap (λ (x : Bool). board_verdict x body) (sym listed-held) in
-        record { prints = shows _ _ refl (ap (λ (v : Verdict). offer_line board_word v 0) is) shown; state = call.state m.records }
+        record { prints = shows _ _ refl (ap (offer_line board_word) is) shown; state = call.state m.records }
 
     pub list_played : (access' : List ℕ) (told : Verdict)
         → ListCall m.board m.access body access' told
-        → PrintedOffer line list_word told 0 line' n
+        → PrintedOffer line list_word told line' n
         → CallPlayed m (list_call body) line (memories m.board access' m.records) line' n
     unfolding line_of verdict_to state_in setup_in
     list_played access' told call shown =
         let is : told ≡ verdict_to (state_of m) (list body) = call.verdict ∙ ap (λ (x : Bool). verdict_of (board_in m.board) x body) (sym listed-held) in
-        record { prints = shows _ _ refl (ap (λ (v : Verdict). offer_line list_word v 0) is) shown; state = call.state m.records }
+        record { prints = shows _ _ refl (ap (offer_line list_word) is) shown; state = call.state m.records }
 
-    pub block_played : (access' : List ℕ) (told : BlockReport)
+    pub block_played : (access' : List ℕ) (told : Verdict)
         → BlockCall m.board m.access abi_major abi_minor body access' told
-        → PrintedOffer line block_word told.verdict told.host line' n
+        → PrintedOffer line block_word told line' n
         → CallPlayed m (block_call body) line (memories m.board access' m.records) line' n
     unfolding line_of verdict_to state_in setup_in
     block_played access' told call shown =
-        let same = ap (λ (x : Bool). block_verdict (board_in m.board) x abi_major abi_minor body) (sym listed-held) in
-        record {
-          prints =
-              shows _ _ refl
-              (ap₂ (offer_line block_word) (call.verdict ∙ same) (call.host ∙ ap (λ (v : Verdict). reported_host v body) same)) shown;
-          state = call.state m.records;
-        }
+        let is : told ≡ verdict_to (state_of m) (block abi_major abi_minor body) =
+        call.verdict ∙ ap (λ (x : Bool). block_verdict (board_in m.board) x abi_major abi_minor body) (sym listed-held) in
+        record { prints = shows _ _ refl (ap (offer_line block_word) is) shown; state = call.state m.records }
 
     pub message_played : (words records' buffer : List ℕ) (told : Report)
         → MessageCall m (lent_in body words) records' buffer told

@@ -8,7 +8,7 @@ mod offer;
 ghost use Rattle.std.specs.Prelude.{◌≡◌, false, List, ℕ, ◌≤◌, length, eqb};
 ghost use Rattle.rules.specs.Recording.{message_tag, status_tag, field_of};
 ghost use Rattle.recording_texts.specs.Texts.{line_size};
-ghost use Rattle.recording_step.specs.SessionMemory.{session_memories};
+ghost use Rattle.recording_step.specs.SessionMemory.{session_memories, memories_in, SameMemory};
 ghost use Rattle.recording_step.specs.Fields.{FieldPlayed};
 
 use crate::message::message_line;
@@ -21,11 +21,15 @@ use recording_fields::{
 };
 use recording_texts::LINE_BYTES;
 
-// What a field leaves: the length of the line it printed, and how many status words stand.
-#[derive(Clone, Copy)]
-pub struct Played {
-    pub line: usize,
-    pub words: u8,
+// What a session keeps: board, access list, records and status words, in memory that the caller lends; and how
+// many of the words stand.
+#[derive(Drop)]
+pub struct SessionMemory<'a> {
+    pub board: &'a mut BoardMemory,
+    pub access: &'a mut AccessMemory,
+    pub records: &'a mut RecordMemory,
+    pub words: &'a mut StatusWords,
+    pub standing: u8,
 }
 
 // Carries out a field that is neither a message nor status words, and writes its line over the start of `line`.
@@ -56,48 +60,35 @@ fn play_offer(
     0
 }
 
-// Carries out a whole field, and writes the line that it prints, if any, over the start of `line`. Where there
-// is no room for a line, nothing is carried out. A message is tested first, since most fields are one.
-pub fn play_field(
-    board: &mut BoardMemory,
-    access: &mut AccessMemory,
-    records: &mut RecordMemory,
-    words: &mut StatusWords,
-    count: u8,
-    tag: u8,
-    body: &[u8],
-    line: &mut [u8],
-) -> Played
-    ensures { FieldPlayed (session_memories board.old access.old records.old words.old count)
-        (field_of tag body.now) line.old
-        (session_memories board.new access.new records.new words.new result.words)
-        line.new result.line }
-{
-    if line.len() < LINE_BYTES {
-        return Played {
-            line: 0,
-            words: count,
-        };
-    }
-    if tag == TAG_MESSAGE {
-        let status = &words[..];
-        let standing = count as usize;
-        let printed = message_line(board, access, records, body, &status[..standing], line);
-        return Played {
-            line: printed,
-            words: count,
-        };
-    }
-    if tag == TAG_STATUS {
-        let taken = take_words(body, words);
-        return Played {
-            line: 0,
-            words: taken as u8,
-        };
-    }
-    let printed = play_offer(board, access, tag, body, line);
-    Played {
-        line: printed,
-        words: count,
+impl SessionMemory<'_> {
+    // Carries out a whole field, and writes the line that it prints, if any, over the start of `line`. Gives the
+    // line's length. Where there is no room for a line, nothing is carried out. A message is tested first, since most
+    // fields are one.
+    pub fn play_field(&mut self, tag: u8, body: &[u8], line: &mut [u8]) -> usize
+        ensures same_memory { SameMemory self.old self.new }
+        ensures played { FieldPlayed (memories_in self.old) (field_of tag body.now) line.old
+            (memories_in self.new) line.new result }
+    {
+        if line.len() < LINE_BYTES {
+            return 0;
+        }
+        if tag == TAG_MESSAGE {
+            let status = &self.words[..];
+            let standing = self.standing as usize;
+            return message_line(
+                self.board,
+                self.access,
+                self.records,
+                body,
+                &status[..standing],
+                line,
+            );
+        }
+        if tag == TAG_STATUS {
+            let taken = take_words(body, self.words);
+            self.standing = taken as u8;
+            return 0;
+        }
+        play_offer(self.board, self.access, tag, body, line)
     }
 }

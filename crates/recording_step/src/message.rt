@@ -1,6 +1,6 @@
 // Session recordings: carries a message out, and writes the line that it prints. The rule is
 // specs/Fields.antt.
-ghost use Rattle.std.specs.Prelude.{◌≡◌, ◌≤◌, length, drop};
+ghost use Rattle.std.specs.Prelude.{◌≡◌, ◌≤◌, length};
 ghost use Rattle.rules.specs.Recording.{message_call};
 ghost use Rattle.record.specs.Memory.{memories};
 ghost use Rattle.recording_texts.specs.Texts.{line_size};
@@ -13,16 +13,6 @@ use message_answer::ANSWER_BYTES;
 use record::RecordMemory;
 use recording_lines::print_message;
 use wire::byte_at;
-
-// All of a field's body but its first byte.
-fn after_first(body: &[u8]) -> &[u8]
-    ensures { result.now ≡ drop 1 body.now }
-{
-    if body.len() == 0 {
-        return &body[..0];
-    }
-    &body[1..]
-}
 
 // Carries out a message field with these status words, and writes its line over the start of `line`. Gives
 // the line's length.
@@ -40,7 +30,7 @@ pub(crate) fn message_line(
         (memories board.now access.now records.new) line.new result }
 {
     let mut answer = [0u8; ANSWER_BYTES];
-    let sent = after_first(body);
+    let sent = body.get(1..).unwrap_or(&[]);
     let channel = byte_at(body, 0);
     let told = message(board, access, records, channel, sent, status, &mut answer);
     let written = told.written;

@@ -58,7 +58,6 @@ pub(crate) fn block_line(
         CallPlayed (memories board.now access.old records) (block_call body.now) line.old
         (memories board.now access.new records) line.new result }
 {
-    let report = offer_block(board, access, ABI_MAJOR, ABI_MINOR, body);
-    let verdict = report.verdict;
-    print_block(line, verdict, report.host)
+    let verdict = offer_block(board, access, ABI_MAJOR, ABI_MINOR, body);
+    print_block(line, verdict)
 }

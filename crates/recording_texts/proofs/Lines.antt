@@ -1,13 +1,13 @@
 -- The lines of verdicts, byte by byte.
 use Prim.Native.Nat.{ℕ, ◌+◌, ◌-◌, ◌/◌, ◌%◌, ◌≤◌, ◌<◌}
-use mathlib.Core.Path.{◌≡◌, refl, sym, ap, ap₂, ◌∙◌}
+use mathlib.Core.Path.{◌≡◌, refl, ap, ap₂, ◌∙◌}
 use mathlib.Core.List.{List, [], ◌∷◌, ◌++◌}
 use native.Mathlib.Omega.{arith}
 use lib.ListN.{length, take, replicate, length-append, length-replicate}
 use lib.Seq.{take-append_seam}
-use Rattle.rules.specs.declared.Verdict.{Verdict}
-use Rattle.rules.specs.declared.Verdict.TheVariants.{Accepted, A1, A2, A3, A4, A5, A6, A7, A8, B1, B2, B3, B4, B5, B6, B7, B8, B9, B10, D1, D2, D3, D4, D5, D6}
-use Rattle.rules.specs.Verdict.{verdict_number}
+use Rattle.rules.specs.declared.Fault.{Fault}
+use Rattle.rules.specs.declared.Fault.TheVariants.{A1, A2, A3, A4, A5, A6, A7, A8, B1, B2, B3, B4, B5, B6, B7, B8, B9, B10, D1, D2, D3, D4, D5, D6}
+use Rattle.rules.specs.Verdict.{fault_number}
 use Rattle.rules.specs.Text.{decimal_in, decimal_of, verdict_letter, verdict_line}
 use Rattle.recording_texts.proofs.Digits.{decimal_last, decimal_two, decimal_three}
 use Rattle.recording_texts.specs.Names.{loop_line, padded}
@@ -40,38 +40,33 @@ pub ten_line : (host : ℕ) → verdict_line 110 host ≡ 66 ∷ 49 ∷ 48 ∷ 1
 unfolding decimal_in
 ten_line host = refl
 
-pub plain_line : (v : Verdict) (host : ℕ) → (verdict_number v ≡ 0 → ⊥) → (verdict_number v ≡ 108 → ⊥) → (verdict_number v ≡ 110 → ⊥)
-    → verdict_line (verdict_number v) host ≡ verdict_letter (verdict_number v) ∷ (48 + verdict_number v % 10) ∷ 10 ∷ []
+pub plain_line : (fault : Fault) (host : ℕ) → ((h : ℕ) → fault ≡ B8 h → ⊥) → (fault ≡ B10 → ⊥)
+    → verdict_line (fault_number fault) host ≡ verdict_letter (fault_number fault) ∷ (48 + fault_number fault % 10) ∷ 10 ∷ []
 unfolding decimal_in
-plain_line Accepted host some no_loop no-ten = absurd (some refl)
-plain_line A1 host some no_loop no-ten = refl
-plain_line A2 host some no_loop no-ten = refl
-plain_line A3 host some no_loop no-ten = refl
-plain_line A4 host some no_loop no-ten = refl
-plain_line A5 host some no_loop no-ten = refl
-plain_line A6 host some no_loop no-ten = refl
-plain_line A7 host some no_loop no-ten = refl
-plain_line A8 host some no_loop no-ten = refl
-plain_line B1 host some no_loop no-ten = refl
-plain_line B2 host some no_loop no-ten = refl
-plain_line B3 host some no_loop no-ten = refl
-plain_line B4 host some no_loop no-ten = refl
-plain_line B5 host some no_loop no-ten = refl
-plain_line B6 host some no_loop no-ten = refl
-plain_line B7 host some no_loop no-ten = refl
-plain_line B8 host some no_loop no-ten = absurd (no_loop refl)
-plain_line B9 host some no_loop no-ten = refl
-plain_line B10 host some no_loop no-ten = absurd (no-ten refl)
-plain_line D1 host some no_loop no-ten = refl
-plain_line D2 host some no_loop no-ten = refl
-plain_line D3 host some no_loop no-ten = refl
-plain_line D4 host some no_loop no-ten = refl
-plain_line D5 host some no_loop no-ten = refl
-plain_line D6 host some no_loop no-ten = refl
-
--- a text told as its eight bytes and their number
-pub told : {line bytes : List ℕ} {count : ℕ} (text : List ℕ) → line ≡ text → bytes ≡ padded text → count ≡ length text → (bytes ≡ padded line) × (count ≡ length line)
-told text is bytes count = (bytes ∙ ap padded (sym is), count ∙ ap length (sym is))
+plain_line A1 host no_loop no-ten = refl
+plain_line A2 host no_loop no-ten = refl
+plain_line A3 host no_loop no-ten = refl
+plain_line A4 host no_loop no-ten = refl
+plain_line A5 host no_loop no-ten = refl
+plain_line A6 host no_loop no-ten = refl
+plain_line A7 host no_loop no-ten = refl
+plain_line A8 host no_loop no-ten = refl
+plain_line B1 host no_loop no-ten = refl
+plain_line B2 host no_loop no-ten = refl
+plain_line B3 host no_loop no-ten = refl
+plain_line B4 host no_loop no-ten = refl
+plain_line B5 host no_loop no-ten = refl
+plain_line B6 host no_loop no-ten = refl
+plain_line B7 host no_loop no-ten = refl
+plain_line (B8 h) host no_loop no-ten = absurd (no_loop h refl)
+plain_line B9 host no_loop no-ten = refl
+plain_line B10 host no_loop no-ten = absurd (no-ten refl)
+plain_line D1 host no_loop no-ten = refl
+plain_line D2 host no_loop no-ten = refl
+plain_line D3 host no_loop no-ten = refl
+plain_line D4 host no_loop no-ten = refl
+plain_line D5 host no_loop no-ten = refl
+plain_line D6 host no_loop no-ten = refl
 
 -- ---- read back: of the eight bytes as many as there are
 

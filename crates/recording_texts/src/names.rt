@@ -15,14 +15,11 @@ pub const LINE_BYTES: usize = 96;
 pub fn outcome_name(outcome: Outcome) -> [u8; 3]
     ensures { result ≡ outcome_name (outcome_number outcome) ++ (32 ∷ []) }
 {
-    let number = outcome_number(outcome);
-    if number == 0 {
-        return [b'O', b'K', b' '];
+    match outcome_number(outcome) {
+        0 => *b"OK ",
+        number @ 1..=99 => [b'N', b'0' + number as u8, b' '],
+        number => [b'R', b'0' + (number - 100) as u8, b' '],
     }
-    if number < 100 {
-        return [b'N', 48 + number as u8, b' '];
-    }
-    [b'R', (number - 52) as u8, b' ']
 }
 
 // What a bad record prints.

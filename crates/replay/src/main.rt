@@ -6,11 +6,12 @@
 ghost use Rattle.std.specs.Prelude.{◌≤◌};
 ghost use Rattle.replay.specs.Stand.{Within};
 
-use access::{ACCESS_WORDS, AccessMemory};
-use board::{BOARD_BYTES, BoardMemory};
-use record::{RECORD_WORDS, RecordMemory};
+use access::ACCESS_WORDS;
+use board::BOARD_BYTES;
+use record::RECORD_WORDS;
 use recording_feed::{CARRY_BYTES, CarryBuffer, feed, finish};
-use recording_fields::{STATUS_WORDS, StatusWords};
+use recording_fields::STATUS_WORDS;
+use recording_step::SessionMemory;
 use std::io::{Read, Write};
 
 // How many bytes are read, and how many may be printed, at once.
@@ -18,12 +19,11 @@ const BUFFER_BYTES: usize = 65536;
 
 type Buffer = [u8; BUFFER_BYTES];
 
-// Where a session stands between two turns: how many bytes the carry holds, how many status words stand, the
-// place in the piece and its end, whether a record waits for room, and whether the session goes on.
+// Where a session stands between two turns: how many bytes the carry holds, the place in the piece and its end,
+// whether a record waits for room, and whether the session goes on.
 #[derive(Clone, Copy)]
 pub struct Stand {
     pub held: usize,
-    pub words: u8,
     pub at: usize,
     pub end: usize,
     pub full: bool,
@@ -34,10 +34,7 @@ pub struct Stand {
 #[tactic(auto, using(recording_feed::proofs::Stops::fed_within))]
 fn feed_piece<W: Write>(
     to: &mut W,
-    board: &mut BoardMemory,
-    access: &mut AccessMemory,
-    records: &mut RecordMemory,
-    words: &mut StatusWords,
+    session: &mut SessionMemory,
     carry: &mut CarryBuffer,
     stand: Stand,
     input: &Buffer,
@@ -49,11 +46,7 @@ fn feed_piece<W: Write>(
     let end = stand.end;
     let all = &input[..];
     let fed = feed(
-        board,
-        access,
-        records,
-        words,
-        stand.words,
+        session,
         carry,
         stand.held,
         false,
@@ -66,7 +59,6 @@ fn feed_piece<W: Write>(
     let written = to.write_all(&lines[..used]).is_ok();
     Stand {
         held: fed.held,
-        words: fed.words,
         at: fed.at,
         end,
         full: fed.full,
@@ -89,10 +81,7 @@ fn announce<W: Write>(to: &mut W, carry: &CarryBuffer, held: usize, output: &mut
 fn turn<R: Read, W: Write>(
     from: &mut R,
     to: &mut W,
-    board: &mut BoardMemory,
-    access: &mut AccessMemory,
-    records: &mut RecordMemory,
-    words: &mut StatusWords,
+    session: &mut SessionMemory,
     carry: &mut CarryBuffer,
     stand: Stand,
     input: &mut Buffer,
@@ -102,9 +91,7 @@ fn turn<R: Read, W: Write>(
     ensures { Within result }
 {
     if stand.full {
-        return feed_piece(
-            to, board, access, records, words, carry, stand, input, output,
-        );
+        return feed_piece(to, session, carry, stand, input, output);
     }
     let end = match from.read(input) {
         Ok(count) => count,
@@ -112,7 +99,6 @@ fn turn<R: Read, W: Write>(
     };
     let next = Stand {
         held: stand.held,
-        words: stand.words,
         at: 0,
         end,
         full: false,
@@ -122,9 +108,7 @@ fn turn<R: Read, W: Write>(
         announce(to, carry, stand.held, output);
         return next;
     }
-    feed_piece(
-        to, board, access, records, words, carry, next, input, output,
-    )
+    feed_piece(to, session, carry, next, input, output)
 }
 
 // Document 01's board stands until a board description is taken.
@@ -139,9 +123,15 @@ fn main(rt: HostRuntime) {
     let mut input = [0u8; BUFFER_BYTES];
     let mut output = [0u8; BUFFER_BYTES];
     board_setup::start(&mut board);
+    let mut session = SessionMemory {
+        board: &mut board,
+        access: &mut access,
+        records: &mut records,
+        words: &mut words,
+        standing: 0,
+    };
     let mut stand = Stand {
         held: 0,
-        words: 0,
         at: 0,
         end: 0,
         full: false,
@@ -154,10 +144,7 @@ fn main(rt: HostRuntime) {
         stand = turn(
             &mut from,
             &mut to,
-            &mut board,
-            &mut access,
-            &mut records,
-            &mut words,
+            &mut session,
             &mut carry,
             stand,
             &mut input,

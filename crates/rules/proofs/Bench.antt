@@ -9,7 +9,7 @@ use Rattle.rules.specs.Board.{board_host, active_host, row_of, on_board, class_a
 use Rattle.rules.specs.Description.{nothing_listed, our_description, body_size, field_good, no_item, item_in, field_size, items_from, items_in, lists_host, lists_processor, repeats, other_class, is_full, item_table, with_item, items_table, description_table, board_verdict, with_items, description_in, described, mark_in, row_in, class_in, shared_cluster, shared_in, home_in, board_of, ours}
 use Rattle.rules.specs.Substructure.{parts_of, named_in, in_turn}
 use Rattle.rules.specs.AccessList.{no_entry, entry_table, content_table, list_table, verdict_of, entry_in, with_part, with_parts, no_entries, entries_of, has_entry}
-use Rattle.rules.specs.Hierarchy.{pairs, supervisor_of, meets, on_loop, first_host, loop_host, pair_table, hierarchy_table, loop_reported}
+use Rattle.rules.specs.Hierarchy.{pairs, supervisor_of, meets, on_loop, first_host, loop_host, pair_table, hierarchy_table}
 use Rattle.rules.specs.Block.{otp_table, block_table, block_verdict}
 use Rattle.rules.specs.Role.{names_host, role_table, role_of, permitted}
 use Rattle.rules.specs.Message.{answer_asked, kind_of, wait_in, subject_of, names_processor, is_about}
@@ -58,7 +58,7 @@ Prints cases = map (λ (c : RecordingCase). transcript first_session c.bytes) ca
 
 -- what a case is computed with: to unfold this is to unfold all that its line names
 computed : Bool
-unfolding word_bytes decimal_in hex_of answer_text length_good found in_front split_in split words_from words_in loop_reported offer_line message_line line_of called standing carry_out lines_of transcript first_session held_from tallied_in worked_out counted_in no_tallies counts_for one_more tally_after tallies_after counts count_of is_about names_processor supervisor_of meets on_loop first_host loop_host pair_table hierarchy_table otp_table block_table block_verdict shown_in hosts_from processors_from nothing_listed body_size field_good no_item item_in field_size items_from items_in lists_host repeats other_class is_full item_table with_item items_table description_table board_verdict with_items description_in described first_of any_of place_of table_of ours our_description lists_processor mark_in row_in class_in shared_cluster shared_in home_in board_of board_host active_host row_of on_board class_at class_of home_at mask_of no_entry parts_of named_in entry_table in_turn content_table list_table verdict_of accepted entry_in with_part with_parts no_entries entries_of has_entry names_host role_table role_of permitted answer_asked kind_of wait_in subject_of run_after ends_run first_end ending_check ran_out checks_of micros_of sender_wrong words_missing wait_failed before_type on_type behind_type admission by_words outcome_table outcome_of carried_out silent record_after ack_bytes bytes_for answer_bytes answer_of waited tells_role report_of listed free_own fresh entry_of record_in record_of view_of put_in stored verdict_to taken after_offer after_message answer_to next run given_in answer_given
+unfolding word_bytes decimal_in hex_of answer_text length_good found in_front split_in split words_from words_in offer_line message_line line_of called standing carry_out lines_of transcript first_session held_from tallied_in worked_out counted_in no_tallies counts_for one_more tally_after tallies_after counts count_of is_about names_processor supervisor_of meets on_loop first_host loop_host pair_table hierarchy_table otp_table block_table block_verdict shown_in hosts_from processors_from nothing_listed body_size field_good no_item item_in field_size items_from items_in lists_host repeats other_class is_full item_table with_item items_table description_table board_verdict with_items description_in described first_of any_of place_of table_of ours our_description lists_processor mark_in row_in class_in shared_cluster shared_in home_in board_of board_host active_host row_of on_board class_at class_of home_at mask_of no_entry parts_of named_in entry_table in_turn content_table list_table verdict_of accepted entry_in with_part with_parts no_entries entries_of has_entry names_host role_table role_of permitted answer_asked kind_of wait_in subject_of run_after ends_run first_end ending_check ran_out checks_of micros_of sender_wrong words_missing wait_failed before_type on_type behind_type admission by_words outcome_table outcome_of carried_out silent record_after ack_bytes bytes_for answer_bytes answer_of waited tells_role report_of listed free_own fresh entry_of record_in record_of view_of put_in stored verdict_to taken after_offer after_message answer_to next run given_in answer_given
 computed = true
 
 pub starred-hold : Hold starred

@@ -2,24 +2,25 @@
 -- supervisors ends; B8 comes where a loop is, and its host is the first in entry order that lies on one.
 use Prim.Native.Nat.{ℕ, ◌<◌}
 use mathlib.Core.Path.{◌≡◌, refl, sym, subst, ◌∙◌, ap}
-use mathlib.Core.Bool.{Bool, true, false, not}
+use mathlib.Core.Bool.{Bool, true, false, not, ◌&&◌}
 use mathlib.Core.List.{List, [], ◌∷◌, ◌++◌}
 use native.Mathlib.Omega.{arith}
+use mathlib.Core.Logic.{⊎_elim}
 use lib.ListN.{length, drop, length-drop}
 use lib.Seq.{length-take-le}
 use lib.Dec.{eqb, lit<}
-use borrow.Author.Tests.{eqb-true, eq-eqb, ne_eqb, not-false}
-use Rattle.rules.specs.declared.Verdict.{Verdict}
-use Rattle.rules.specs.declared.Verdict.TheVariants.{Accepted, A1, A3, A4, A5, A6, A7, A8, B1, B2, B3, B4, B5, B6, B7, B8}
+use borrow.Author.Tests.{eqb-true, eq-eqb, ne_eqb, not-true, not-false}
+use Rattle.std.specs.Prelude.{Ok, Err}
+use Rattle.rules.specs.declared.Fault.TheVariants.{A1, A3, A4, A5, A6, A7, A8, B1, B2, B3, B4, B5, B6, B7, B8}
 use Rattle.rules.specs.Table.{Line, ◌gives◌, first_of}
 use Rattle.rules.specs.Bytes.{byte_at}
-use Rattle.rules.specs.Verdict.{verdict_number, accepted}
+use Rattle.rules.specs.Verdict.{Verdict, Accepted, verdict_number, reported_host, accepted}
 use Rattle.rules.specs.Board.{Board}
 use Rattle.rules.specs.Substructure.{in_turn}
 use Rattle.rules.specs.AccessList.{entry_table, content_table, list_table, verdict_of, parts}
-use Rattle.rules.specs.Hierarchy.{pairs, loop_host, pair_table, hierarchy_table, loop_reported, Ends, FirstOnLoop}
-use Rattle.rules.specs.Block.{list_part, hierarchy_part, otp_part, abi_good, otp_table, block_table, block_verdict, reported_host}
-use Rattle.rules.proofs.Tests.{clash, and_left, and_right, first_of-append, cleared, passed, skipped, none_good, none_append, none_falls}
+use Rattle.rules.specs.Hierarchy.{pairs, loop_host, pair_table, hierarchy_table, Ends, FirstOnLoop}
+use Rattle.rules.specs.Block.{list_part, hierarchy_part, otp_part, abi_good, otp_table, block_table, block_verdict}
+use Rattle.rules.proofs.Tests.{decide, clash, cond-true, cond-false, and_left, and_right, first_of-append, cleared, passed, none_good, none_append, none_falls}
 use Rattle.rules.proofs.Hierarchy.{none_ends, reported_first}
 
 -- ---- lines that give no good answer, where neither of A1 to A8 nor of B1 to B7 is one
@@ -37,16 +38,16 @@ module _ (good : Verdict → Bool) (off : (v : Verdict) → 0 < verdict_number v
   entry_none : (b : Board) (earlier : List (List ℕ)) (part : List ℕ) → none_good good (entry_table b earlier part) ≡ true
   unfolding entry_table none_good
   entry_none b earlier part =
-      rw (off A5 (lit< tt) (lit< tt), off A6 (lit< tt) (lit< tt), off A7 (lit< tt) (lit< tt), off A8 (lit< tt) (lit< tt))
+      rw (off (Err A5) (lit< tt) (lit< tt), off (Err A6) (lit< tt) (lit< tt), off (Err A7) (lit< tt) (lit< tt), off (Err A8) (lit< tt) (lit< tt))
 
   pub content-none : (b : Board) (list : List ℕ) → none_good good (content_table b list) ≡ true
   unfolding content_table none_good
   content-none b list =
-      rw (off A3 (lit< tt) (lit< tt), off A4 (lit< tt) (lit< tt)) (turn-none (entry_table b) (entry_none b) [] (parts list))
+      rw (off (Err A3) (lit< tt) (lit< tt), off (Err A4) (lit< tt) (lit< tt)) (turn-none (entry_table b) (entry_none b) [] (parts list))
 
   pub pair_none : (b : Board) (earlier : List (List ℕ)) (pair : List ℕ) → none_good good (pair_table b earlier pair) ≡ true
   unfolding pair_table none_good
-  pair_none b earlier pair = rw (off B5 (lit< tt) (lit< tt), off B6 (lit< tt) (lit< tt), off B7 (lit< tt) (lit< tt))
+  pair_none b earlier pair = rw (off (Err B5) (lit< tt) (lit< tt), off (Err B6) (lit< tt) (lit< tt), off (Err B7) (lit< tt) (lit< tt))
 
   pub pairs-none : (b : Board) (earlier rest : List (List ℕ)) → none_good good (in_turn (pair_table b) earlier rest) ≡ true
   pairs-none b earlier rest = turn-none (pair_table b) (pair_none b) earlier rest
@@ -54,19 +55,20 @@ module _ (good : Verdict → Bool) (off : (v : Verdict) → 0 < verdict_number v
 -- `Accepted` and B8 are such answers
 pub refused_number : (v : Verdict) → 0 < verdict_number v → verdict_number v < 108 → accepted v ≡ false
 unfolding accepted
-refused_number v some high = ne_eqb (verdict_number v) 0 (λ e. omega (arith, e))
+refused_number (Ok _) some high = absurd (omega (arith, some))
+refused_number (Err fault) some high = refl
 
-abbrev pub is_B8 : Verdict → Bool
-is_B8 v = eqb (verdict_number v) 108
+abbrev pub reports : ℕ → Verdict → Bool
+reports h v = eqb (verdict_number v) 108 && eqb (reported_host v) h
 
-pub B8-number : (v : Verdict) → 0 < verdict_number v → verdict_number v < 108 → is_B8 v ≡ false
-B8-number v some high = ne_eqb (verdict_number v) 108 (λ e. omega (arith, e))
+reports-number : (h : ℕ) (v : Verdict) → 0 < verdict_number v → verdict_number v < 108 → reports h v ≡ false
+reports-number h v some high = rw (ne_eqb (verdict_number v) 108 (λ e. omega (arith, e)))
 
 -- no line of a hierarchy accepts
 pub hierarchy-none : (b : Board) (bytes : List ℕ) → none_good accepted (hierarchy_table b bytes) ≡ true
 unfolding hierarchy_table none_good accepted
 hierarchy-none b bytes =
-    none_append accepted (in_turn (pair_table b) [] (pairs bytes)) ((not (eqb (loop_host (pairs bytes)) 0) gives B8) ∷ [])
+    none_append accepted (in_turn (pair_table b) [] (pairs bytes)) ((not (eqb (loop_host (pairs bytes)) 0) gives Err (B8 (loop_host (pairs bytes)))) ∷ [])
     (pairs-none accepted refused_number b [] (pairs bytes)) refl
 
 -- ---- the list of a block
@@ -91,7 +93,7 @@ module _ (good : Verdict → Bool) (off : (v : Verdict) → 0 < verdict_number v
   turns = in_turn (pair_table b) [] (pairs part)
 
   abbrev loop_line : List (Line Verdict)
-  loop_line = (not (eqb (loop_host (pairs part)) 0) gives B8) ∷ []
+  loop_line = (not (eqb (loop_host (pairs part)) 0) gives Err (B8 (loop_host (pairs part)))) ∷ []
 
   abbrev content : List (Line Verdict)
   content = content_table b (list_part bytes)
@@ -103,13 +105,13 @@ module _ (good : Verdict → Bool) (off : (v : Verdict) → 0 < verdict_number v
   past_first : (listed ≡ false) × (length bytes ≡ 431) × (abi_good major minor bytes ≡ true) × (good (first_of Accepted (content ++ behind)) ≡ true)
   unfolding block_verdict block_table
   past_first =
-      let a1 = passed good Accepted _ _ _ (off A1 (lit< tt) (lit< tt)) comes in
-      let b1 = passed good Accepted _ _ _ (off B1 (lit< tt) (lit< tt)) a1 in (
-        cleared good Accepted _ _ _ (off A1 (lit< tt) (lit< tt)) comes,
+      let a1 = passed good Accepted _ _ _ (off (Err A1) (lit< tt) (lit< tt)) comes in
+      let b1 = passed good Accepted _ _ _ (off (Err B1) (lit< tt) (lit< tt)) a1 in (
+        cleared good Accepted _ _ _ (off (Err A1) (lit< tt) (lit< tt)) comes,
         eqb-true (length bytes) 431
-            (not-false (eqb (length bytes) 431) (cleared good Accepted _ _ _ (off B1 (lit< tt) (lit< tt)) a1)),
-        not-false (abi_good major minor bytes) (cleared good Accepted _ _ _ (off B2 (lit< tt) (lit< tt)) b1),
-        passed good Accepted _ _ _ (off B2 (lit< tt) (lit< tt)) b1,
+            (not-false (eqb (length bytes) 431) (cleared good Accepted _ _ _ (off (Err B1) (lit< tt) (lit< tt)) a1)),
+        not-false (abi_good major minor bytes) (cleared good Accepted _ _ _ (off (Err B2) (lit< tt) (lit< tt)) b1),
+        passed good Accepted _ _ _ (off (Err B2) (lit< tt) (lit< tt)) b1,
       )
 
   -- so are the list's lines
@@ -128,8 +130,8 @@ module _ (good : Verdict → Bool) (off : (v : Verdict) → 0 < verdict_number v
   past_pairs : good (first_of Accepted (loop_line ++ otp_table (otp_part bytes))) ≡ true
   unfolding hierarchy_table
   past_pairs =
-      let b3 = passed good Accepted _ _ _ (off B3 (lit< tt) (lit< tt)) past_content in
-      let b4 = passed good Accepted _ _ _ (off B4 (lit< tt) (lit< tt)) b3 in
+      let b3 = passed good Accepted _ _ _ (off (Err B3) (lit< tt) (lit< tt)) past_content in
+      let b4 = passed good Accepted _ _ _ (off (Err B4) (lit< tt) (lit< tt)) b3 in
       let rest = first_of (first_of Accepted (otp_table (otp_part bytes))) loop_line in
       let split : first_of Accepted ((turns ++ loop_line) ++ otp_table (otp_part bytes)) ≡ first_of rest turns =
       first_of-append Accepted (turns ++ loop_line) (otp_table (otp_part bytes))
@@ -186,19 +188,25 @@ accepted-ends b listed major minor bytes ok h =
 -- ---- B8
 
 -- the OTP part gives no B8
-otp-none : (bytes : List ℕ) → none_good is_B8 (otp_table bytes) ≡ true
+otp-none : (h : ℕ) (bytes : List ℕ) → none_good (reports h) (otp_table bytes) ≡ true
 unfolding otp_table none_good
-otp-none bytes = refl
+otp-none h bytes = refl
 
 -- it comes only where a loop is, and the host that it reports is the first in entry order that lies on one
-pub B8-first : (b : Board) (listed : Bool) (major minor : ℕ) (bytes : List ℕ)
-    → block_verdict b listed major minor bytes ≡ B8 → FirstOnLoop (pairs (hierarchy_part bytes)) (reported_host B8 bytes)
-unfolding loop_reported
-B8-first b listed major minor bytes is =
-    let below = past_pairs is_B8 B8-number b listed major minor bytes (ap is_B8 is) in
-    reported_first (pairs (hierarchy_part bytes))
+pub B8-first : (b : Board) (listed : Bool) (major minor : ℕ) (bytes : List ℕ) {h : ℕ}
+    → block_verdict b listed major minor bytes ≡ Err (B8 h)
+    → FirstOnLoop (pairs (hierarchy_part bytes)) h
+unfolding first_of
+B8-first b listed major minor bytes {h} is =
+    let entries = pairs (hierarchy_part bytes) in
+    let otp = otp_table (otp_part bytes) in
+    let below = past_pairs (reports h) (reports-number h) b listed major minor bytes (ap (reports h) is ∙ eq-eqb h h refl) in
+    let loops : eqb (loop_host entries) 0 ≡ false = not-true (eqb (loop_host entries) 0) (⊎_elim (λ there. there)
     (λ none.
-    let b9 =
-    subst (λ (v : Verdict). is_B8 v ≡ true) (skipped Accepted B8 (otp_table (otp_part bytes)) (ap not (eq-eqb (loop_host (pairs (hierarchy_part bytes))) 0 none))) below
-    in
-    clash b9 (ap is_B8 (none_falls is_B8 Accepted Accepted (otp_table (otp_part bytes)) (otp-none (otp_part bytes)) b9)))
+    let b9 = rw (cond-false (Err (B8 (loop_host entries))) (first_of Accepted otp) none) at below in
+    clash b9 (ap (reports h) (none_falls (reports h) Accepted Accepted otp (otp-none h (otp_part bytes)) b9)))
+    (decide (not (eqb (loop_host entries) 0)))) in
+    let told : eqb (loop_host entries) h ≡ true =
+    rw (cond-true (Err (B8 (loop_host entries))) (first_of Accepted otp) (ap not loops)) at below in
+    subst (FirstOnLoop entries) (eqb-true (loop_host entries) h told)
+    (reported_first entries (λ none. clash (eq-eqb (loop_host entries) 0 none) loops))

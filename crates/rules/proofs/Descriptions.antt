@@ -10,9 +10,8 @@ use lib.ListN.{length, get_or, length-append}
 use lib.Dec.{eqb}
 use borrow.Author.Tests.{leb-false}
 use Rattle.rules.specs.declared.Item.{Item}
-use Rattle.rules.specs.declared.Verdict.TheVariants.{Accepted}
 use Rattle.rules.specs.Table.{◌gives◌, first_of, any_of, table_of}
-use Rattle.rules.specs.Verdict.{accepted}
+use Rattle.rules.specs.Verdict.{Accepted, accepted}
 use Rattle.rules.specs.Board.{rows, board_host, active_host, secure_host, on_board}
 use Rattle.rules.specs.Description.{Host, Description, nothing_listed, our_description, body_size, field_good, no_item, item_in, field_size, items_from, items_in, is_host, lists_host, lists_processor, repeats, other_class, is_full, item_table, with_item, items_table, description_table, board_verdict, with_items, description_in, mark_in, board_of, described, ours, our_bytes}
 use Rattle.rules.proofs.Tests.{decide, cleared, passed}

@@ -9,10 +9,9 @@ use lib.ListN.{length, get_or, set, replicate, length-set, length-replicate}
 use lib.Seq.{get_or-set_same, get_or-set_other, set_out}
 use lib.Dec.{eqb, ltb}
 use borrow.Author.Tests.{eqb-true, eqb-false, ltb-true, ltb-false, not-false}
-use Rattle.rules.specs.declared.Verdict.TheVariants.{Accepted}
 use Rattle.rules.specs.Table.{first_of, any_of}
 use Rattle.rules.specs.Board.{Board, active_host, rows, row_of, on_board}
-use Rattle.rules.specs.Verdict.{accepted}
+use Rattle.rules.specs.Verdict.{Accepted, accepted}
 use Rattle.rules.specs.Substructure.{used, named_in, in_turn}
 use Rattle.rules.specs.AccessList.{Entry, no_entry, parts, processor_in, master_in, entry_table, content_table, list_table, verdict_of, entry_in, with_part, with_parts, no_entries, entries_of, has_entry}
 use Rattle.rules.proofs.Tests.{decide, clash, and_left, and_right, or_cases, cleared, passed}

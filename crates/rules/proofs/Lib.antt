@@ -20,3 +20,4 @@ pub mod Waits
 pub mod Bench
 pub mod Flags
 pub mod Recording
+pub mod Outcomes

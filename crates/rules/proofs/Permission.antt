@@ -7,9 +7,10 @@ use mathlib.Core.List.{[], ◌∷◌}
 use mathlib.Core.Logic.{⊎_elim}
 use lib.Dec.{eqb}
 use borrow.Author.Tests.{eqb-true, eq-eqb, ne_eqb}
+use Rattle.std.specs.Prelude.{Option, None, Some}
 use Rattle.rules.specs.declared.Record.{Record}
 use Rattle.rules.specs.declared.Role.{Role}
-use Rattle.rules.specs.declared.Role.TheVariants.{None, Master, Secondary0, Secondary1, Secondary2, Open}
+use Rattle.rules.specs.declared.Role.TheVariants.{Master, Secondary0, Secondary1, Secondary2, Open}
 use Rattle.rules.specs.Table.{◌gives◌, first_of}
 use Rattle.rules.specs.Board.{Board, active_host}
 use Rattle.rules.specs.AccessList.{Entry, has_entry, master_by01, secondary_by01, permitted_by01}
@@ -27,11 +28,11 @@ names-used s h =
     (decide (eqb s h))
 
 -- the role by plain tests: an entry, its master, its three places, and a board host but 0
-abbrev by_tests : Bool → Bool → Bool → Bool → Bool → Bool → Role
+abbrev by_tests : Bool → Bool → Bool → Bool → Bool → Bool → Option Role
 by_tests entry master first second third active =
     cond entry
-    (first_of None ((master gives Master) ∷ (first gives Secondary0) ∷ (second gives Secondary1) ∷ (third gives Secondary2) ∷ []))
-    (cond active Open None)
+    (first_of None ((master gives Some Master) ∷ (first gives Some Secondary0) ∷ (second gives Some Secondary1) ∷ (third gives Some Secondary2) ∷ []))
+    (cond active (Some Open) None)
 
 permits-by : (entry master used first second third active : Bool)
     → permits (by_tests entry master (used && first) (used && second) (used && third) active)
@@ -73,22 +74,14 @@ module _ (b : Board) (e : Entry) (h : ℕ) where
   request-same r = rw (sym permitted-same, sym master_same)
 
 -- a role that does not permit is none
-none_by : (role : Role) → permits role ≡ false → role ≡ None
+none_by : (role : Option Role) → permits role ≡ false → role ≡ None
 none_by None is = refl
-none_by Master is = clash {x = true} refl is
-none_by Secondary0 is = clash {x = true} refl is
-none_by Secondary1 is = clash {x = true} refl is
-none_by Secondary2 is = clash {x = true} refl is
-none_by Open is = clash {x = true} refl is
+none_by (Some _) is = clash {x = true} refl is
 
 -- the recovery master is permitted
-pub master_permits : (role : Role) → is_master role ≡ true → permits role ≡ true
+pub master_permits : (role : Option Role) → is_master role ≡ true → permits role ≡ true
 master_permits None is = is
-master_permits Master is = refl
-master_permits Secondary0 is = refl
-master_permits Secondary1 is = refl
-master_permits Secondary2 is = refl
-master_permits Open is = refl
+master_permits (Some _) is = refl
 
 -- ---- the role by tests in the order of the code
 
@@ -109,26 +102,26 @@ module _ (b : Board) (e : Entry) (h : ℕ) where
   unfolding permitted permitted_by01 master_by01 secondary_by01 has_entry active_host
   role_zero zero = none_by (role_of b e h) (permitted-same b e h ∙ rw zero (zero_by (eqb e.master 0)))
 
-  pub role_master : (h ≡ 0 → ⊥) → e.master ≡ h → role_of b e h ≡ Master
+  pub role_master : (h ≡ 0 → ⊥) → e.master ≡ h → role_of b e h ≡ (Some Master)
   unfolding role_of role_table first_of has_entry
   role_master active is = rw (is, ne_eqb h 0 active, eq-eqb h h refl)
 
-  pub role_open : e.master ≡ 0 → role_of b e h ≡ cond (active_host b h) Open None
+  pub role_open : e.master ≡ 0 → role_of b e h ≡ cond (active_host b h) (Some Open) None
   unfolding role_of has_entry
   role_open none = rw none
 
   module _ (active : h ≡ 0 → ⊥) (entry : e.master ≡ 0 → ⊥) (other : e.master ≡ h → ⊥) where
-    pub role_first : e.first ≡ h → role_of b e h ≡ Secondary0
+    pub role_first : e.first ≡ h → role_of b e h ≡ (Some Secondary0)
     unfolding role_of role_table first_of has_entry
     role_first is = rw (ne_eqb _ 0 entry, ne_eqb _ h other, names-host e.first h active is)
 
     module _ (not_first : e.first ≡ h → ⊥) where
-      pub role-second : e.second ≡ h → role_of b e h ≡ Secondary1
+      pub role-second : e.second ≡ h → role_of b e h ≡ (Some Secondary1)
       unfolding role_of role_table first_of has_entry
       role-second is = rw (ne_eqb _ 0 entry, ne_eqb _ h other, names-other e.first h not_first, names-host e.second h active is)
 
       module _ (not-second : e.second ≡ h → ⊥) where
-        pub role-third : e.third ≡ h → role_of b e h ≡ Secondary2
+        pub role-third : e.third ≡ h → role_of b e h ≡ (Some Secondary2)
         unfolding role_of role_table first_of has_entry
         role-third is =
             rw (

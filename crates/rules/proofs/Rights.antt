@@ -10,15 +10,13 @@ use lib.Dec.{eqb, leb, lit≤}
 use borrow.Author.Tests.{eqb-true, eq-eqb, ltb-false, le-leb, not-true, not-false}
 use Rattle.rules.specs.declared.Kind.{Kind}
 use Rattle.rules.specs.declared.Kind.TheVariants.{Request, Release, Handover, SetConfig, SetControl, AuthBoot, GetStatus, WaitStatus, Other}
-use Rattle.rules.specs.declared.Outcome.{Outcome}
-use Rattle.rules.specs.declared.Outcome.TheVariants.{Ok}
 use Rattle.rules.specs.declared.Record.{Record}
 use Rattle.rules.specs.Table.{first_of}
 use Rattle.rules.specs.Board.{Board, active_host, on_board}
 use Rattle.rules.specs.AccessList.{Entry}
 use Rattle.rules.specs.Role.{role_of, is_master, permits, permitted}
 use Rattle.rules.specs.Message.{Query, host_of, kind_in, size_of, names_processor, subject_of, is_about}
-use Rattle.rules.specs.Outcome.{View, sender_wrong, type_unknown, too_short, not_offered, is_free, is_controller, may_request, has_right, operands_good, before_type, on_type, behind_type, admission, by_words, outcome_table, outcome_of, carried_out}
+use Rattle.rules.specs.Outcome.{Outcome, OK, View, sender_wrong, type_unknown, too_short, not_offered, is_free, is_controller, may_request, has_right, operands_good, before_type, on_type, behind_type, admission, by_words, outcome_table, outcome_of, carried_out}
 use Rattle.rules.specs.Effect.{effect_of, record_after}
 use Rattle.rules.proofs.Permission.{master_permits}
 use Rattle.rules.proofs.Tests.{decide, clash, and_left, and_right, and_both, or_cases, or_right, or_false_left, cond-true, cond-false, cleared, passed, first_of-append}
@@ -65,8 +63,8 @@ module _ (v : View) (q : Query) where
   unfolding outcome_of outcome_table
   allowed ok =
       let k = kind_in q.message in
-      admitted_allowed k (first_of Ok (by_words q k))
-      (subst (λ (o : Outcome). carried_out o ≡ true) (first_of-append Ok (admission v q k) (by_words q k)) ok)
+      admitted_allowed k (first_of OK (by_words q k))
+      (subst (λ (o : Outcome). carried_out o ≡ true) (first_of-append OK (admission v q k) (by_words q k)) ok)
 
 -- ---- who has a right on a processor with an entry
 

@@ -1,48 +1,47 @@
--- Verdicts as the code matches on them: one that is not `Accepted` is a refusal, and its number in the enum is none of `Accepted`'s.
-use Prim.Native.Nat.{ℕ, suc}
+-- Verdicts as the code matches on them: one that is not `Accepted` is a refusal, and its number is not 0.
+use Prim.Native.Nat.{◌<◌}
 use mathlib.Core.Path.{◌≡◌, refl}
-use mathlib.Core.Bool.{false}
-use mathlib.Core.List.{List, [], ◌∷◌, map}
-use mathlib.Core.Logic.{⊎_elim}
+use mathlib.Core.Bool.{true, false}
 use native.Mathlib.Omega.{arith}
-use types.Run.{OneOf}
-use Rattle.rules.specs.declared.Verdict.{Verdict}
-use Rattle.rules.specs.declared.Verdict.TheVariants.{Accepted, A1, A2, A3, A4, A5, A6, A7, A8, B1, B2, B3, B4, B5, B6, B7, B8, B9, B10, D1, D2, D3, D4, D5, D6}
-use Rattle.rules.specs.Verdict.{accepted}
+use lib.Dec.{lit<}
+use Rattle.std.specs.Prelude.{Ok, Err}
+use Rattle.rules.specs.declared.Fault.{Fault}
+use Rattle.rules.specs.declared.Fault.TheVariants.{A1, A2, A3, A4, A5, A6, A7, A8, B1, B2, B3, B4, B5, B6, B7, B8, B9, B10, D1, D2, D3, D4, D5, D6}
+use Rattle.rules.specs.Verdict.{Verdict, Accepted, accepted, fault_number, verdict_number}
 
 pub not_accepted : (v : Verdict) → (v ≡ Accepted → ⊥) → accepted v ≡ false
 unfolding accepted
-not_accepted Accepted bad = absurd (bad refl)
-not_accepted A1 bad = refl
-not_accepted A2 bad = refl
-not_accepted A3 bad = refl
-not_accepted A4 bad = refl
-not_accepted A5 bad = refl
-not_accepted A6 bad = refl
-not_accepted A7 bad = refl
-not_accepted A8 bad = refl
-not_accepted B1 bad = refl
-not_accepted B2 bad = refl
-not_accepted B3 bad = refl
-not_accepted B4 bad = refl
-not_accepted B5 bad = refl
-not_accepted B6 bad = refl
-not_accepted B7 bad = refl
-not_accepted B8 bad = refl
-not_accepted B9 bad = refl
-not_accepted B10 bad = refl
-not_accepted D1 bad = refl
-not_accepted D2 bad = refl
-not_accepted D3 bad = refl
-not_accepted D4 bad = refl
-not_accepted D5 bad = refl
-not_accepted D6 bad = refl
+not_accepted (Ok tt) bad = absurd (bad refl)
+not_accepted (Err fault) bad = refl
 
-no_zero : (ks : List ℕ) → OneOf (map suc ks) 0 → ⊥
-no_zero [] h = h
-no_zero (k ∷ []) h = omega arith
-no_zero (k ∷ l ∷ ks) h = ⊎_elim (λ e. omega (arith, e)) (λ later. no_zero (l ∷ ks) later) h
+fault_numbered : (fault : Fault) → 0 < fault_number fault
+fault_numbered A1 = lit< tt
+fault_numbered A2 = lit< tt
+fault_numbered A3 = lit< tt
+fault_numbered A4 = lit< tt
+fault_numbered A5 = lit< tt
+fault_numbered A6 = lit< tt
+fault_numbered A7 = lit< tt
+fault_numbered A8 = lit< tt
+fault_numbered B1 = lit< tt
+fault_numbered B2 = lit< tt
+fault_numbered B3 = lit< tt
+fault_numbered B4 = lit< tt
+fault_numbered B5 = lit< tt
+fault_numbered B6 = lit< tt
+fault_numbered B7 = lit< tt
+fault_numbered (B8 host) = lit< tt
+fault_numbered B9 = lit< tt
+fault_numbered B10 = lit< tt
+fault_numbered D1 = lit< tt
+fault_numbered D2 = lit< tt
+fault_numbered D3 = lit< tt
+fault_numbered D4 = lit< tt
+fault_numbered D5 = lit< tt
+fault_numbered D6 = lit< tt
 
--- the number of `Accepted` is none of the refusals' numbers
-pub no_fault : OneOf (1 ∷ 2 ∷ 3 ∷ 4 ∷ 5 ∷ 6 ∷ 7 ∷ 8 ∷ 9 ∷ 10 ∷ 11 ∷ 12 ∷ 13 ∷ 14 ∷ 15 ∷ 16 ∷ 17 ∷ 18 ∷ 19 ∷ 20 ∷ 21 ∷ 22 ∷ 23 ∷ 24 ∷ []) 0 → ⊥
-no_fault h = no_zero (0 ∷ 1 ∷ 2 ∷ 3 ∷ 4 ∷ 5 ∷ 6 ∷ 7 ∷ 8 ∷ 9 ∷ 10 ∷ 11 ∷ 12 ∷ 13 ∷ 14 ∷ 15 ∷ 16 ∷ 17 ∷ 18 ∷ 19 ∷ 20 ∷ 21 ∷ 22 ∷ 23 ∷ []) h
+-- 0 is the number of what was accepted alone
+pub number_accepts : (v : Verdict) → verdict_number v ≡ 0 → accepted v ≡ true
+unfolding accepted
+number_accepts (Ok _) none = refl
+number_accepts (Err fault) none = absurd (let some = fault_numbered fault in omega (arith, none, some))

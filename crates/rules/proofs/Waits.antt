@@ -9,14 +9,14 @@ use native.Mathlib.Omega.{arith}
 use lib.ListN.{length, get_or, replicate, length-replicate, get_or-replicate}
 use lib.Dec.{eqb, ltb, leb}
 use borrow.Author.Tests.{ltb-true, ltb-false, leb-true, leb-false, eqb-false, not-true, le-ltb, le-leb, lt-leb, ne_eqb}
+use Rattle.std.specs.Prelude.{Err}
 use Rattle.rules.specs.declared.Kind.TheVariants.{WaitStatus}
-use Rattle.rules.specs.declared.Outcome.{Outcome}
-use Rattle.rules.specs.declared.Outcome.TheVariants.{R3, N9, Ok}
+use Rattle.rules.specs.declared.Refusal.TheVariants.{R3, N9}
 use Rattle.rules.specs.declared.Wait.{Wait}
 use Rattle.rules.specs.Table.{first_of}
 use Rattle.rules.specs.Message.{Query, wait_in}
 use Rattle.rules.specs.Wait.{word_matches, run_after, ends_run, first_end, ending_check, ran_out, wait_good}
-use Rattle.rules.specs.Outcome.{words_missing, wait_failed, by_words, carried_out}
+use Rattle.rules.specs.Outcome.{Outcome, OK, words_missing, wait_failed, by_words, carried_out}
 use Rattle.rules.proofs.Tests.{decide, and_left, or_false_left, or_false_right, cond-true, cond-false}
 
 module _ (w : Wait) (words : List ℕ) where
@@ -104,10 +104,10 @@ good_numbers w good =
 
 -- what the words alone make of a wait: R3, N9 or OK
 abbrev pub by_its_words : Query → Outcome
-by_its_words q = first_of Ok (by_words q WaitStatus)
+by_its_words q = first_of OK (by_words q WaitStatus)
 
 -- a wait that fails is not carried out, whether or not words are missing
-failed_not_ok : (missing failed : Bool) → failed ≡ true → carried_out (cond missing R3 (cond failed N9 Ok)) ≡ false
+failed_not_ok : (missing failed : Bool) → failed ≡ true → carried_out (cond missing (Err R3) (cond failed (Err N9) OK)) ≡ false
 unfolding carried_out
 failed_not_ok true failed is = refl
 failed_not_ok false failed is = rw is
@@ -121,7 +121,7 @@ module _ (q : Query) (w : Wait) (here : w ≡ wait_in q.message) where
       (subst (λ (x : Wait). ran_out x q.status ≡ true) here (never_ends w q.status above))
 
   module _ (word : ℕ) (matching : word_matches w word ≡ true) (lent : q.status ≡ replicate w.waits word) where
-    within-ok : 1 ≤ w.matches → w.matches ≤ w.waits → by_its_words q ≡ Ok
+    within-ok : 1 ≤ w.matches → w.matches ≤ w.waits → by_its_words q ≡ OK
     unfolding first_of by_words words_missing wait_failed
     within-ok some within =
         rw (
@@ -133,9 +133,9 @@ module _ (q : Query) (w : Wait) (here : w ≡ wait_in q.message) where
         )
 
     -- with equal numbers, and a word that matches lent `waits` times, OK
-    pub equal_ok : 1 ≤ w.matches → w.waits ≡ w.matches → by_its_words q ≡ Ok
+    pub equal_ok : 1 ≤ w.matches → w.waits ≡ w.matches → by_its_words q ≡ OK
     equal_ok some equal = within-ok some (omega arith)
 
     -- and so wherever the operands are right: no wait is served that its numbers keep from OK
-    pub good_ok : wait_good w ≡ true → by_its_words q ≡ Ok
+    pub good_ok : wait_good w ≡ true → by_its_words q ≡ OK
     good_ok good = let right = good_numbers w good in within-ok right.0 right.1

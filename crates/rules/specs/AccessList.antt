@@ -1,8 +1,8 @@
 -- "Access list": 292 bytes, 32 entries of nine bytes each; why a list is refused, in order; the entries that an accepted list leaves; who
 -- is permitted. Hosts here are 16-bit numbers and stay so.
-use Rattle.std.specs.Prelude.{ℕ, Bool, cond, not, ◌&&◌, ◌||◌, List, [], ◌∷◌, length, set, replicate, eqb}
-use Rattle.rules.specs.declared.Verdict.{Verdict}
-use Rattle.rules.specs.declared.Verdict.TheVariants.{Accepted, A1, A2, A3, A4, A5, A6, A7, A8}
+use Rattle.std.specs.Prelude.{ℕ, Bool, cond, not, ◌&&◌, ◌||◌, List, [], ◌∷◌, length, set, replicate, eqb, Err}
+use Rattle.rules.specs.Verdict.{Verdict, Accepted}
+use Rattle.rules.specs.declared.Fault.TheVariants.{A1, A2, A3, A4, A5, A6, A7, A8}
 use Rattle.rules.specs.Table.{Line, ◌gives◌, first_of, any_of}
 use Rattle.rules.specs.Bytes.{u16_at}
 use Rattle.rules.specs.Board.{Board, board_host, active_host, rows, row_of, on_board}
@@ -58,22 +58,22 @@ bad_secondary b s = not (board_host b s)
 -- A5 to A8 of one entry, after the entries before it
 unfoldable pub entry_table : Board → List (List ℕ) → List ℕ → List (Line Verdict)
 entry_table b earlier part =
-    (used part && not (on_board b (processor_in part)) gives A5)
-    ∷ (used part && named_in earlier (processor_in part) gives A6)
-    ∷ (used part && not (active_host b (master_in part)) gives A7)
-    ∷ (used part && any_of (bad_secondary b) (secondaries_in part) gives A8)
+    (used part && not (on_board b (processor_in part)) gives Err A5)
+    ∷ (used part && named_in earlier (processor_in part) gives Err A6)
+    ∷ (used part && not (active_host b (master_in part)) gives Err A7)
+    ∷ (used part && any_of (bad_secondary b) (secondaries_in part) gives Err A8)
     ∷ []
 
 -- A3 and A4, then the entries 0 to 31: what is judged of a list, alone or in a block (document 02, L1)
 unfoldable pub content_table : Board → List ℕ → List (Line Verdict)
 content_table b list =
-    (not (eqb (magic_in list) 0xF1EA) gives A3)
-    ∷ (not (eqb (size_in list) list_size) gives A4)
+    (not (eqb (magic_in list) 0xF1EA) gives Err A3)
+    ∷ (not (eqb (size_in list) list_size) gives Err A4)
     ∷ in_turn (entry_table b) [] (parts list)
 
 -- A1, where a list or a block was accepted, and A2 come first
 unfoldable pub list_table : Board → Bool → List ℕ → List (Line Verdict)
-list_table b listed list = (listed gives A1) ∷ (not (eqb (length list) list_size) gives A2) ∷ content_table b list
+list_table b listed list = (listed gives Err A1) ∷ (not (eqb (length list) list_size) gives Err A2) ∷ content_table b list
 
 -- the first fault is reported
 unfoldable pub verdict_of : Board → Bool → List ℕ → Verdict

@@ -1,17 +1,16 @@
 -- "Messages", its paragraph on the answer, and the last column of "Outcomes": the answer's bytes, what a call reports, and what the answer
 -- buffer holds afterwards.
-use Rattle.std.specs.Prelude.{ℕ, Bool, cond, ◌&&◌, ◌||◌, eqb, List, [], ◌∷◌, ◌++◌, length, get_or, drop}
+use Rattle.std.specs.Prelude.{ℕ, Bool, cond, ◌&&◌, ◌||◌, eqb, List, [], ◌∷◌, ◌++◌, length, get_or, drop, Err, None}
 use Rattle.rules.specs.declared.Kind.{Kind}
 use Rattle.rules.specs.declared.Kind.TheVariants.{Request, GetStatus, WaitStatus}
-use Rattle.rules.specs.declared.Outcome.{Outcome}
-use Rattle.rules.specs.declared.Outcome.TheVariants.{N7, N9}
+use Rattle.rules.specs.declared.Refusal.{Refusal}
+use Rattle.rules.specs.declared.Refusal.TheVariants.{N7, N9}
 use Rattle.rules.specs.declared.Record.{Record}
 use Rattle.rules.specs.declared.Report.{Report}
-use Rattle.rules.specs.declared.Role.TheVariants.{None}
 use Rattle.rules.specs.Bytes.{byte_at, u32_bytes}
 use Rattle.rules.specs.Message.{Query, answer_asked, is_kind, kind_in, processor_of, wait_in}
 use Rattle.rules.specs.Wait.{checks_of, micros_of}
-use Rattle.rules.specs.Outcome.{View, sender_role, outcome_of, outcome_number, carried_out, silent}
+use Rattle.rules.specs.Outcome.{Outcome, View, sender_role, outcome_of, outcome_number, carried_out, silent}
 
 -- type, host and sequence repeated, and the flags
 abbrev pub header_with : ℕ → List ℕ → List ℕ
@@ -51,9 +50,9 @@ answer_bytes o q r = cond (answer_asked q.message) (bytes_for o q r) []
 unfoldable pub answer_of : View → Query → List ℕ
 answer_of v q = answer_bytes (outcome_of v q) q v.state
 
--- carried out, or refused by the row of `refusal`
-abbrev pub ok_or : Outcome → Outcome → Bool
-ok_or refusal o = carried_out o || eqb (outcome_number o) (outcome_number refusal)
+-- carried out, or refused by this row
+abbrev pub ok_or : Refusal → Outcome → Bool
+ok_or row o = carried_out o || eqb (outcome_number o) (outcome_number (Err row))
 
 -- the outcome carries the checks made and the microseconds where a wait ended, OK or N9
 unfoldable pub waited : Kind → Outcome → Bool

@@ -1,11 +1,11 @@
 -- "The pack on the bench": the starred cases, as one table. Each row has the calls made before, from a fresh manager; the call; and what
 -- it gives. `proofs/Bench.antt` checks the table.
-use Rattle.std.specs.Prelude.{ℕ, List, [], ◌∷◌, ◌++◌, replicate}
-use Rattle.rules.specs.declared.Outcome.{Outcome}
-use Rattle.rules.specs.declared.Outcome.TheVariants.{N7, N8, Ok}
+use Rattle.std.specs.Prelude.{ℕ, List, [], ◌∷◌, ◌++◌, replicate, Err}
+use Rattle.rules.specs.Outcome.{Outcome, OK}
+use Rattle.rules.specs.declared.Refusal.TheVariants.{N7, N8}
 use Rattle.rules.specs.declared.Record.{Record}
-use Rattle.rules.specs.declared.Verdict.{Verdict}
-use Rattle.rules.specs.declared.Verdict.TheVariants.{Accepted, A1, A7}
+use Rattle.rules.specs.Verdict.{Verdict, Accepted}
+use Rattle.rules.specs.declared.Fault.TheVariants.{A1, A7}
 use Rattle.rules.specs.Bytes.{u32_bytes}
 use Rattle.rules.specs.Message.{subject_of}
 use Rattle.rules.specs.Tally.{no_tallies}
@@ -106,33 +106,33 @@ unfoldable pub starred : List Case
 starred =
     -- that list is accepted; master 0A 01 (266) gives A7; a second list gives A1
     record { earlier = []; call = offer (list bench_list); gives = verdict Accepted }
-    ∷ record { earlier = []; call = offer (list (list_with_master 0x0A 0x01)); gives = verdict A7 }
-    ∷ record { earlier = loaded; call = offer (list bench_list); gives = verdict A1 }
+    ∷ record { earlier = []; call = offer (list (list_with_master 0x0A 0x01)); gives = verdict (Err A7) }
+    ∷ record { earlier = loaded; call = offer (list bench_list); gives = verdict (Err A1) }
     -- host 3 requests 1; then host 5 gets N7, host 3 again OK
-    ∷ record { earlier = loaded; call = request 3; gives = answer Ok 0 0 (header 0x00 0xC0 3 2) (held_with 3 0) }
-    ∷ record { earlier = held_by3; call = request 5; gives = answer N7 0 0 (header 0x00 0xC0 5 0) (held_with 3 0) }
-    ∷ record { earlier = held_by3; call = request 3; gives = answer Ok 0 0 (header 0x00 0xC0 3 2) (held_with 3 0) }
+    ∷ record { earlier = loaded; call = request 3; gives = answer OK 0 0 (header 0x00 0xC0 3 2) (held_with 3 0) }
+    ∷ record { earlier = held_by3; call = request 5; gives = answer (Err N7) 0 0 (header 0x00 0xC0 5 0) (held_with 3 0) }
+    ∷ record { earlier = held_by3; call = request 3; gives = answer OK 0 0 (header 0x00 0xC0 3 2) (held_with 3 0) }
     -- if 5 held it first, 5 again N7, 3 takes it
-    ∷ record { earlier = held_by5; call = request 5; gives = answer N7 0 0 (header 0x00 0xC0 5 0) (held_with 5 0) }
-    ∷ record { earlier = held_by5; call = request 3; gives = answer Ok 0 0 (header 0x00 0xC0 3 2) (held_with 3 0) }
+    ∷ record { earlier = held_by5; call = request 5; gives = answer (Err N7) 0 0 (header 0x00 0xC0 5 0) (held_with 5 0) }
+    ∷ record { earlier = held_by5; call = request 3; gives = answer OK 0 0 (header 0x00 0xC0 3 2) (held_with 3 0) }
     -- with 3 controlling 1: handover by 3 to 5 OK, to 6 N8
-    ∷ record { earlier = held_by3; call = handover 3 5; gives = answer Ok 0 0 (header 0x05 0xC0 3 2) (held_with 5 0) }
-    ∷ record { earlier = held_by3; call = handover 3 6; gives = answer N8 0 0 (header 0x05 0xC0 3 0) (held_with 3 0) }
+    ∷ record { earlier = held_by3; call = handover 3 5; gives = answer OK 0 0 (header 0x05 0xC0 3 2) (held_with 5 0) }
+    ∷ record { earlier = held_by3; call = handover 3 6; gives = answer (Err N8) 0 0 (header 0x05 0xC0 3 0) (held_with 3 0) }
     -- vector low 0x41C00040 N8; the same with clear bit 28 OK, vector kept
     ∷ record {
       earlier = held_by3;
       call = set_config 3 0x41C00040 0;
-      gives = answer N8 0 0 (header 0x00 0xC1 3 0) (held_with 3 0);
+      gives = answer (Err N8) 0 0 (header 0x00 0xC1 3 0) (held_with 3 0);
     }
     ∷ record {
       earlier = held_by3 ++ (set_config 3 0x41C00080 0 ∷ []);
       call = set_config 3 0x41C00040 0x10000000;
-      gives = answer Ok 0 0 (header 0x00 0xC1 3 2) (held_with 3 0x41C00080);
+      gives = answer OK 0 0 (header 0x00 0xC1 3 2) (held_with 3 0x41C00080);
     }
     -- words 0, 2, 0x12, 1, 2, then five zeros: OK, 5 checks, 10 microseconds
     ∷ record {
       earlier = held_by3;
       call = wait_status 3 ((0 ∷ 2 ∷ 0x12 ∷ 1 ∷ 2 ∷ []) ++ replicate 5 0);
-      gives = answer Ok 5 10 (header 0x01 0xC4 3 2) (held_with 3 0);
+      gives = answer OK 5 10 (header 0x01 0xC4 3 2) (held_with 3 0);
     }
     ∷ []

@@ -1,9 +1,10 @@
 -- Worked cases of document 02's L1: blocks with each fault alone and with two, where the earlier one is told; what is accepted before and after; and the
 -- hosts that loops report. `proofs/Bench.antt` checks the tables.
-use Rattle.std.specs.Prelude.{ℕ, ◌-◌, List, [], ◌∷◌, ◌++◌, length, set, take, replicate}
-use Rattle.rules.specs.declared.Outcome.TheVariants.{N1, Ok}
-use Rattle.rules.specs.declared.Verdict.{Verdict}
-use Rattle.rules.specs.declared.Verdict.TheVariants.{Accepted, A1, A3, A7, B1, B2, B3, B4, B5, B6, B7, B8, B9, B10}
+use Rattle.std.specs.Prelude.{ℕ, ◌-◌, List, [], ◌∷◌, ◌++◌, length, set, take, replicate, Err}
+use Rattle.rules.specs.Outcome.{OK}
+use Rattle.rules.specs.declared.Refusal.TheVariants.{N1}
+use Rattle.rules.specs.Verdict.{Verdict, Accepted}
+use Rattle.rules.specs.declared.Fault.TheVariants.{A1, A3, A7, B1, B2, B3, B4, B5, B6, B7, B8, B9, B10}
 use Rattle.rules.specs.Call.{list, block, Call, offer}
 use Rattle.rules.specs.Bench.{list_with_master, bench_list, request, header, verdict, answer, Case, held_with}
 
@@ -58,48 +59,48 @@ unfoldable pub blocked : List Case
 blocked =
     judging bench_block Accepted
     -- each fault alone
-    ∷ judging (take 430 bench_block) B1
-    ∷ judging [] B1
-    ∷ behind [] (offer (block 1 0 bench_block)) B2
-    ∷ behind [] (offer (block 0 2 bench_block)) B2
-    ∷ judging (block_of (bad_magic bench_list) (hierarchy_of tree) otp) A3
-    ∷ judging (block_of (list_with_master 0x0A 0x01) (hierarchy_of tree) otp) A7
-    ∷ judging (block_of bench_list (bad_magic (hierarchy_of tree)) otp) B3
-    ∷ judging (block_of bench_list (bad_size (hierarchy_of tree)) otp) B4
-    ∷ judging (with_tree (7 ∷ 3 ∷ [])) B5
-    ∷ judging (with_tree (5 ∷ 7 ∷ [])) B6
-    ∷ judging (with_tree (5 ∷ 3 ∷ 6 ∷ 3 ∷ 5 ∷ 10 ∷ [])) B7
-    ∷ judging (with_tree (5 ∷ 5 ∷ [])) B8
-    ∷ judging (with_tree (5 ∷ 6 ∷ 6 ∷ 5 ∷ [])) B8
-    ∷ judging (block_of bench_list (hierarchy_of tree) (bad_magic otp)) B9
-    ∷ judging (block_of bench_list (hierarchy_of tree) (bad_size otp)) B10
+    ∷ judging (take 430 bench_block) (Err B1)
+    ∷ judging [] (Err B1)
+    ∷ behind [] (offer (block 1 0 bench_block)) (Err B2)
+    ∷ behind [] (offer (block 0 2 bench_block)) (Err B2)
+    ∷ judging (block_of (bad_magic bench_list) (hierarchy_of tree) otp) (Err A3)
+    ∷ judging (block_of (list_with_master 0x0A 0x01) (hierarchy_of tree) otp) (Err A7)
+    ∷ judging (block_of bench_list (bad_magic (hierarchy_of tree)) otp) (Err B3)
+    ∷ judging (block_of bench_list (bad_size (hierarchy_of tree)) otp) (Err B4)
+    ∷ judging (with_tree (7 ∷ 3 ∷ [])) (Err B5)
+    ∷ judging (with_tree (5 ∷ 7 ∷ [])) (Err B6)
+    ∷ judging (with_tree (5 ∷ 3 ∷ 6 ∷ 3 ∷ 5 ∷ 10 ∷ [])) (Err B7)
+    ∷ judging (with_tree (5 ∷ 5 ∷ [])) (Err (B8 5))
+    ∷ judging (with_tree (5 ∷ 6 ∷ 6 ∷ 5 ∷ [])) (Err (B8 5))
+    ∷ judging (block_of bench_list (hierarchy_of tree) (bad_magic otp)) (Err B9)
+    ∷ judging (block_of bench_list (hierarchy_of tree) (bad_size otp)) (Err B10)
     -- of an unused entry the supervisor is not looked at
     ∷ judging (with_tree (0 ∷ 7 ∷ 5 ∷ 3 ∷ [])) Accepted
     -- two faults: the earlier one is told
-    ∷ judging (block_of (list_with_master 0x0A 0x01) (bad_magic (hierarchy_of tree)) otp) A7
-    ∷ judging (with_tree (5 ∷ 3 ∷ 5 ∷ 7 ∷ [])) B6
-    ∷ judging (with_tree (5 ∷ 3 ∷ 5 ∷ 3 ∷ 7 ∷ 3 ∷ [])) B7
-    ∷ judging (with_tree (5 ∷ 5 ∷ 7 ∷ 3 ∷ [])) B5
-    ∷ judging (block_of bench_list (hierarchy_of (5 ∷ 5 ∷ [])) (bad_magic otp)) B8
-    ∷ judging (block_of bench_list (hierarchy_of tree) (bad_magic (bad_size otp))) B9
+    ∷ judging (block_of (list_with_master 0x0A 0x01) (bad_magic (hierarchy_of tree)) otp) (Err A7)
+    ∷ judging (with_tree (5 ∷ 3 ∷ 5 ∷ 7 ∷ [])) (Err B6)
+    ∷ judging (with_tree (5 ∷ 3 ∷ 5 ∷ 3 ∷ 7 ∷ 3 ∷ [])) (Err B7)
+    ∷ judging (with_tree (5 ∷ 5 ∷ 7 ∷ 3 ∷ [])) (Err B5)
+    ∷ judging (block_of bench_list (hierarchy_of (5 ∷ 5 ∷ [])) (bad_magic otp)) (Err (B8 5))
+    ∷ judging (block_of bench_list (hierarchy_of tree) (bad_magic (bad_size otp))) (Err B9)
     -- A1 where a list or a block was accepted, whatever is offered
-    ∷ behind (taking ∷ []) taking A1
-    ∷ behind (taking ∷ []) (offer (list bench_list)) A1
-    ∷ behind (offer (list bench_list) ∷ []) taking A1
-    ∷ behind (offer (list bench_list) ∷ []) (offer (block 0 1 [])) A1
+    ∷ behind (taking ∷ []) taking (Err A1)
+    ∷ behind (taking ∷ []) (offer (list bench_list)) (Err A1)
+    ∷ behind (offer (list bench_list) ∷ []) taking (Err A1)
+    ∷ behind (offer (list bench_list) ∷ []) (offer (block 0 1 [])) (Err A1)
     -- nothing is taken from a block with a fault in its last part; then a list or a block is
     ∷ behind (refusing ∷ []) (offer (list bench_list)) Accepted
     ∷ behind (refusing ∷ []) taking Accepted
     ∷ record {
       earlier = refusing ∷ [];
       call = request 3;
-      gives = answer N1 0 0 (header 0x00 0xC0 3 0) (held_with 0 0);
+      gives = answer (Err N1) 0 0 (header 0x00 0xC0 3 0) (held_with 0 0);
     }
     -- of a good one the list is in force
     ∷ record {
       earlier = taking ∷ [];
       call = request 3;
-      gives = answer Ok 0 0 (header 0x00 0xC0 3 2) (held_with 3 0);
+      gives = answer OK 0 0 (header 0x00 0xC0 3 2) (held_with 3 0);
     }
     ∷ []
 

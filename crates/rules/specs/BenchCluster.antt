@@ -1,7 +1,8 @@
 -- Document 02, L4, on the bench: worked cases of the control word that processors 32 and 33 share, as one table in the form of `starred`.
 -- `proofs/Bench.antt` checks it.
-use Rattle.std.specs.Prelude.{ℕ, List, [], ◌∷◌, ◌++◌, replicate}
-use Rattle.rules.specs.declared.Outcome.TheVariants.{N7, Ok}
+use Rattle.std.specs.Prelude.{ℕ, List, [], ◌∷◌, ◌++◌, replicate, Err}
+use Rattle.rules.specs.Outcome.{OK}
+use Rattle.rules.specs.declared.Refusal.TheVariants.{N7}
 use Rattle.rules.specs.declared.Record.{Record}
 use Rattle.rules.specs.Bytes.{u32_bytes}
 use Rattle.rules.specs.Tally.{no_tallies}
@@ -78,38 +79,38 @@ clustered =
     record {
       earlier = set_through32;
       call = get_status 12 33;
-      gives = answer Ok 0 0 (status_of 12 33 (record_with 12 0 0 0x3)) (record_with 12 0 0 0x3);
+      gives = answer OK 0 0 (status_of 12 33 (record_with 12 0 0 0x3)) (record_with 12 0 0 0x3);
     }
     ∷ record {
       earlier = cleared_through33;
       call = get_status 10 32;
-      gives = answer Ok 0 0 (status_of 10 32 (record_with 10 0 0 0x2)) (record_with 10 0 0 0x2);
+      gives = answer OK 0 0 (status_of 10 32 (record_with 10 0 0 0x2)) (record_with 10 0 0 0x2);
     }
     -- the sender needs control of the processor that it names: host 10 controls 32 and not 33
     ∷ record {
       earlier = set_through32;
       call = set_control 10 33 0 0x1;
-      gives = answer N7 0 0 (header 0x01 0xC1 10 0) (record_with 12 0 0 0x3);
+      gives = answer (Err N7) 0 0 (header 0x01 0xC1 10 0) (record_with 12 0 0 0x3);
     }
     -- a release, a handover and a request leave the word
-    ∷ record { earlier = set_through32; call = release 12 33; gives = answer Ok 0 0 (header 0x01 0xC0 12 2) (record_with 0 0 0 0x3) }
-    ∷ record { earlier = set_through32; call = handover 10 32 3; gives = answer Ok 0 0 (header 0x05 0xC0 10 2) (record_with 3 0 0 0x3) }
-    ∷ record { earlier = set_through32; call = request 10 33; gives = answer Ok 0 0 (header 0x00 0xC0 10 2) (record_with 10 0 0 0x3) }
+    ∷ record { earlier = set_through32; call = release 12 33; gives = answer OK 0 0 (header 0x01 0xC0 12 2) (record_with 0 0 0 0x3) }
+    ∷ record { earlier = set_through32; call = handover 10 32 3; gives = answer OK 0 0 (header 0x05 0xC0 10 2) (record_with 3 0 0 0x3) }
+    ∷ record { earlier = set_through32; call = request 10 33; gives = answer OK 0 0 (header 0x00 0xC0 10 2) (record_with 10 0 0 0x3) }
     -- vector and config word stay each processor's own
     ∷ record {
       earlier = configured;
       call = get_status 12 33;
-      gives = answer Ok 0 0 (status_of 12 33 (record_with 12 0 0 0x3)) (record_with 12 0 0 0x3);
+      gives = answer OK 0 0 (status_of 12 33 (record_with 12 0 0 0x3)) (record_with 12 0 0 0x3);
     }
     ∷ record {
       earlier = configured;
       call = get_status 10 32;
-      gives = answer Ok 0 0 (status_of 10 32 (record_with 10 0x80000000 0x4 0x3)) (record_with 10 0x80000000 0x4 0x3);
+      gives = answer OK 0 0 (status_of 10 32 (record_with 10 0x80000000 0x4 0x3)) (record_with 10 0x80000000 0x4 0x3);
     }
     -- the R5 cores stay single
     ∷ record {
       earlier = set_through1;
       call = get_status 3 2;
-      gives = answer Ok 0 0 (status_of 3 2 (record_with 3 0 0 0)) (record_with 3 0 0 0);
+      gives = answer OK 0 0 (status_of 3 2 (record_with 3 0 0 0)) (record_with 3 0 0 0);
     }
     ∷ []

@@ -1,10 +1,10 @@
 -- Document 02, L5, on the bench: worked cases of the role that a call reports, as one table. Each row has the calls made before, from a fresh
 -- manager; the call; and the outcome and the role that it reports. `proofs/Bench.antt` checks the table.
-use Rattle.std.specs.Prelude.{ℕ, List, [], ◌∷◌, ◌++◌, replicate}
-use Rattle.rules.specs.declared.Outcome.{Outcome}
-use Rattle.rules.specs.declared.Outcome.TheVariants.{R1, R2, N1, N2, N3, N4, N5, N6, N7, N8, R3, N9, Ok}
+use Rattle.std.specs.Prelude.{ℕ, List, [], ◌∷◌, ◌++◌, replicate, Err, Option, None, Some}
+use Rattle.rules.specs.Outcome.{Outcome, OK}
+use Rattle.rules.specs.declared.Refusal.TheVariants.{R1, R2, R3, N1, N2, N3, N4, N5, N6, N7, N8, N9}
 use Rattle.rules.specs.declared.Role.{Role}
-use Rattle.rules.specs.declared.Role.TheVariants.{None, Master, Secondary0, Secondary1, Secondary2, Open}
+use Rattle.rules.specs.declared.Role.TheVariants.{Master, Secondary0, Secondary1, Secondary2, Open}
 use Rattle.rules.specs.State.{State}
 use Rattle.rules.specs.Call.{list, answer_to, Lent, query_of, Call, offer}
 use Rattle.rules.specs.Bench.{header}
@@ -47,56 +47,56 @@ pub record RoleCase : Type 0 where
   pub earlier : List Call
   pub call : Lent
   pub outcome : Outcome
-  pub role : Role
+  pub role : Option Role
 
 -- what of a report the table shows
 abbrev pub Shown : Type 0
-Shown = Outcome × Role
+Shown = Outcome × Option Role
 
 unfoldable pub shown_in : State → Lent → Shown
 shown_in s lent = ((answer_to s (query_of lent)).report.outcome, (answer_to s (query_of lent)).report.role)
 
-abbrev pub case : List Call → Lent → Outcome → Role → RoleCase
+abbrev pub case : List Call → Lent → Outcome → Option Role → RoleCase
 case earlier call outcome role = record { earlier = earlier; call = call; outcome = outcome; role = role }
 
 unfoldable pub roled : List RoleCase
 roled =
     -- a host that is both counts as master; of several places the lowest counts
-    case list_taken (requesting 3 1) Ok Master
-    ∷ case list_taken (requesting 3 32) Ok Master
-    ∷ case list_taken (requesting 5 1) Ok Secondary0
-    ∷ case list_taken (requesting 6 2) Ok Secondary1
-    ∷ case list_taken (requesting 12 32) Ok Secondary2
-    ∷ case list_taken (requesting 10 2) Ok Master
-    ∷ case list_taken (requesting 6 33) Ok Open
+    case list_taken (requesting 3 1) OK (Some Master)
+    ∷ case list_taken (requesting 3 32) OK (Some Master)
+    ∷ case list_taken (requesting 5 1) OK (Some Secondary0)
+    ∷ case list_taken (requesting 6 2) OK (Some Secondary1)
+    ∷ case list_taken (requesting 12 32) OK (Some Secondary2)
+    ∷ case list_taken (requesting 10 2) OK (Some Master)
+    ∷ case list_taken (requesting 6 33) OK (Some Open)
     -- one refused by N7 carries the role that it was refused with
-    ∷ case (after 3 1) (requesting 5 1) N7 Secondary0
-    ∷ case (after 5 1) (requesting 5 1) N7 Secondary0
-    ∷ case (after 10 2) (requesting 6 2) N7 Secondary1
-    ∷ case (after 3 32) (requesting 12 32) N7 Secondary2
-    ∷ case (after 6 33) (requesting 3 33) N7 Open
-    ∷ case list_taken (requesting 12 1) N7 None
-    ∷ case (after 3 1) (requesting 12 1) N7 None
+    ∷ case (after 3 1) (requesting 5 1) (Err N7) (Some Secondary0)
+    ∷ case (after 5 1) (requesting 5 1) (Err N7) (Some Secondary0)
+    ∷ case (after 10 2) (requesting 6 2) (Err N7) (Some Secondary1)
+    ∷ case (after 3 32) (requesting 12 32) (Err N7) (Some Secondary2)
+    ∷ case (after 6 33) (requesting 3 33) (Err N7) (Some Open)
+    ∷ case list_taken (requesting 12 1) (Err N7) None
+    ∷ case (after 3 1) (requesting 12 1) (Err N7) None
     -- the recovery master takes a processor that another holds
-    ∷ case (after 5 1) (requesting 3 1) Ok Master
+    ∷ case (after 5 1) (requesting 3 1) OK (Some Master)
     -- requests refused before N7 carry none, also those of the recovery master
-    ∷ case list_taken (sent_via 3 3 0x00 0xC0 (1 ∷ []) [] 28) R1 None
-    ∷ case list_taken (sent_by 3 0x00 0xC0 (replicate 53 1) []) R2 None
-    ∷ case [] (requesting 3 1) N1 None
-    ∷ case list_taken (sent_via 5 3 0x00 0xC0 (1 ∷ []) [] 29) N2 None
-    ∷ case list_taken (sent_by 3 0x00 0xC0 [] []) N4 None
-    ∷ case list_taken (requesting 3 7) N6 None
+    ∷ case list_taken (sent_via 3 3 0x00 0xC0 (1 ∷ []) [] 28) (Err R1) None
+    ∷ case list_taken (sent_by 3 0x00 0xC0 (replicate 53 1) []) (Err R2) None
+    ∷ case [] (requesting 3 1) (Err N1) None
+    ∷ case list_taken (sent_via 5 3 0x00 0xC0 (1 ∷ []) [] 29) (Err N2) None
+    ∷ case list_taken (sent_by 3 0x00 0xC0 [] []) (Err N4) None
+    ∷ case list_taken (requesting 3 7) (Err N6) None
     -- other messages carry none
-    ∷ case (after 3 1) (sent_by 3 0x01 0xC0 (1 ∷ []) []) Ok None
-    ∷ case (after 5 1) (sent_by 3 0x01 0xC0 (1 ∷ []) []) N7 None
-    ∷ case (after 3 1) (sent_by 3 0x05 0xC0 (1 ∷ 5 ∷ []) []) Ok None
-    ∷ case (after 3 1) (sent_by 3 0x05 0xC0 (1 ∷ 6 ∷ []) []) N8 None
-    ∷ case (after 3 1) (sent_by 3 0x00 0xC1 (1 ∷ replicate 16 0) []) Ok None
-    ∷ case (after 3 1) (sent_by 3 0x01 0xC1 (1 ∷ replicate 8 0) []) Ok None
-    ∷ case (after 3 1) (sent_by 3 0x20 0xC1 (replicate 8 0) []) N5 None
-    ∷ case (after 3 1) (sent_by 5 0x00 0xC4 (1 ∷ []) (9 ∷ [])) Ok None
-    ∷ case (after 3 1) (sent_by 5 0x00 0xC4 (1 ∷ []) []) R3 None
-    ∷ case (after 3 1) (sent_by 5 0x01 0xC4 ((1 ∷ 1 ∷ 1 ∷ 0 ∷ 0 ∷ []) ++ (1 ∷ replicate 15 0)) (0 ∷ [])) N9 None
-    ∷ case (after 3 1) (sent_by 5 0x01 0xC4 ((1 ∷ 1 ∷ 1 ∷ 0 ∷ 0 ∷ []) ++ (1 ∷ replicate 15 0)) (1 ∷ [])) Ok None
-    ∷ case (after 3 1) (sent_by 3 0x02 0xC0 (1 ∷ []) []) N3 None
+    ∷ case (after 3 1) (sent_by 3 0x01 0xC0 (1 ∷ []) []) OK None
+    ∷ case (after 5 1) (sent_by 3 0x01 0xC0 (1 ∷ []) []) (Err N7) None
+    ∷ case (after 3 1) (sent_by 3 0x05 0xC0 (1 ∷ 5 ∷ []) []) OK None
+    ∷ case (after 3 1) (sent_by 3 0x05 0xC0 (1 ∷ 6 ∷ []) []) (Err N8) None
+    ∷ case (after 3 1) (sent_by 3 0x00 0xC1 (1 ∷ replicate 16 0) []) OK None
+    ∷ case (after 3 1) (sent_by 3 0x01 0xC1 (1 ∷ replicate 8 0) []) OK None
+    ∷ case (after 3 1) (sent_by 3 0x20 0xC1 (replicate 8 0) []) (Err N5) None
+    ∷ case (after 3 1) (sent_by 5 0x00 0xC4 (1 ∷ []) (9 ∷ [])) OK None
+    ∷ case (after 3 1) (sent_by 5 0x00 0xC4 (1 ∷ []) []) (Err R3) None
+    ∷ case (after 3 1) (sent_by 5 0x01 0xC4 ((1 ∷ 1 ∷ 1 ∷ 0 ∷ 0 ∷ []) ++ (1 ∷ replicate 15 0)) (0 ∷ [])) (Err N9) None
+    ∷ case (after 3 1) (sent_by 5 0x01 0xC4 ((1 ∷ 1 ∷ 1 ∷ 0 ∷ 0 ∷ []) ++ (1 ∷ replicate 15 0)) (1 ∷ [])) OK None
+    ∷ case (after 3 1) (sent_by 3 0x02 0xC0 (1 ∷ []) []) (Err N3) None
     ∷ []

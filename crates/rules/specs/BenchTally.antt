@@ -1,7 +1,7 @@
 -- Document 02, L10, on the bench: worked cases of the tallies, as two tables. `proofs/Bench.antt` checks them.
-use Rattle.std.specs.Prelude.{ℕ, List, [], ◌∷◌, ◌++◌, replicate}
-use Rattle.rules.specs.declared.Outcome.{Outcome}
-use Rattle.rules.specs.declared.Outcome.TheVariants.{N7, N8, Ok}
+use Rattle.std.specs.Prelude.{ℕ, List, [], ◌∷◌, ◌++◌, replicate, Err}
+use Rattle.rules.specs.Outcome.{Outcome, OK}
+use Rattle.rules.specs.declared.Refusal.TheVariants.{N7, N8}
 use Rattle.rules.specs.declared.Tallies.{Tallies}
 use Rattle.rules.specs.Description.{ours}
 use Rattle.rules.specs.Tally.{grants, overrides, handovers, releases, no_tallies}
@@ -60,44 +60,44 @@ unanswered host low high fields =
 unfoldable pub tallied : List TallyCase
 tallied =
     -- requests granted while free, the recovery master's too
-    case 0 no_tallies (requests 5) Ok (tallies 1 0 0 0)
-    ∷ case 0 no_tallies (requests 3) Ok (tallies 1 0 0 0)
-    ∷ case 0 (tallies 7 5 6 7) (unanswered 5 0x00 0xC0 (1 ∷ [])) Ok (tallies 8 5 6 7)
+    case 0 no_tallies (requests 5) OK (tallies 1 0 0 0)
+    ∷ case 0 no_tallies (requests 3) OK (tallies 1 0 0 0)
+    ∷ case 0 (tallies 7 5 6 7) (unanswered 5 0x00 0xC0 (1 ∷ [])) OK (tallies 8 5 6 7)
     -- an override that took it from another host is neither a grant nor a release
-    ∷ case 5 (tallies 1 0 0 0) (requests 3) Ok (tallies 1 1 0 0)
-    ∷ case 5 (tallies 8 5 6 7) (unanswered 3 0x00 0xC0 (1 ∷ [])) Ok (tallies 8 6 6 7)
+    ∷ case 5 (tallies 1 0 0 0) (requests 3) OK (tallies 1 1 0 0)
+    ∷ case 5 (tallies 8 5 6 7) (unanswered 3 0x00 0xC0 (1 ∷ [])) OK (tallies 8 6 6 7)
     -- the recovery master that requests what it holds counts nowhere
-    ∷ case 3 (tallies 1 1 0 0) (requests 3) Ok (tallies 1 1 0 0)
+    ∷ case 3 (tallies 1 1 0 0) (requests 3) OK (tallies 1 1 0 0)
     -- a handover to another host, and one to oneself, which counts nowhere
-    ∷ case 3 (tallies 1 0 0 0) (hands_to 3 5) Ok (tallies 1 0 1 0)
-    ∷ case 5 (tallies 1 0 1 0) (unanswered 5 0x05 0xC0 (1 ∷ 3 ∷ [])) Ok (tallies 1 0 2 0)
-    ∷ case 3 (tallies 1 0 0 0) (hands_to 3 3) Ok (tallies 1 0 0 0)
-    ∷ case 5 (tallies 1 0 0 0) (hands_to 5 5) Ok (tallies 1 0 0 0)
+    ∷ case 3 (tallies 1 0 0 0) (hands_to 3 5) OK (tallies 1 0 1 0)
+    ∷ case 5 (tallies 1 0 1 0) (unanswered 5 0x05 0xC0 (1 ∷ 3 ∷ [])) OK (tallies 1 0 2 0)
+    ∷ case 3 (tallies 1 0 0 0) (hands_to 3 3) OK (tallies 1 0 0 0)
+    ∷ case 5 (tallies 1 0 0 0) (hands_to 5 5) OK (tallies 1 0 0 0)
     -- a release
-    ∷ case 3 (tallies 1 0 0 0) (gives_back 3) Ok (tallies 1 0 0 1)
-    ∷ case 5 (tallies 8 5 6 7) (unanswered 5 0x01 0xC0 (1 ∷ [])) Ok (tallies 8 5 6 8)
+    ∷ case 3 (tallies 1 0 0 0) (gives_back 3) OK (tallies 1 0 0 1)
+    ∷ case 5 (tallies 8 5 6 7) (unanswered 5 0x01 0xC0 (1 ∷ [])) OK (tallies 8 5 6 8)
     -- what is refused counts nowhere
-    ∷ case 3 (tallies 1 0 0 0) (requests 5) N7 (tallies 1 0 0 0)
-    ∷ case 5 (tallies 1 0 0 0) (requests 5) N7 (tallies 1 0 0 0)
-    ∷ case 0 no_tallies (requests 6) N7 no_tallies
-    ∷ case 5 (tallies 1 0 0 0) (hands_to 3 5) N7 (tallies 1 0 0 0)
-    ∷ case 3 (tallies 1 0 0 0) (hands_to 3 6) N8 (tallies 1 0 0 0)
-    ∷ case 5 (tallies 1 0 0 0) (gives_back 3) N7 (tallies 1 0 0 0)
-    ∷ case 0 (tallies 1 0 0 1) (gives_back 3) N7 (tallies 1 0 0 1)
+    ∷ case 3 (tallies 1 0 0 0) (requests 5) (Err N7) (tallies 1 0 0 0)
+    ∷ case 5 (tallies 1 0 0 0) (requests 5) (Err N7) (tallies 1 0 0 0)
+    ∷ case 0 no_tallies (requests 6) (Err N7) no_tallies
+    ∷ case 5 (tallies 1 0 0 0) (hands_to 3 5) (Err N7) (tallies 1 0 0 0)
+    ∷ case 3 (tallies 1 0 0 0) (hands_to 3 6) (Err N8) (tallies 1 0 0 0)
+    ∷ case 5 (tallies 1 0 0 0) (gives_back 3) (Err N7) (tallies 1 0 0 0)
+    ∷ case 0 (tallies 1 0 0 1) (gives_back 3) (Err N7) (tallies 1 0 0 1)
     -- nor do the other types
-    ∷ case 3 (tallies 1 0 0 0) (sent_by 3 0x00 0xC1 (1 ∷ replicate 16 0) []) Ok (tallies 1 0 0 0)
-    ∷ case 3 (tallies 1 0 0 0) (sent_by 3 0x01 0xC1 (1 ∷ replicate 8 0) []) Ok (tallies 1 0 0 0)
-    ∷ case 3 (tallies 1 0 0 0) (sent_by 3 0x00 0xC4 (1 ∷ []) (9 ∷ [])) Ok (tallies 1 0 0 0)
-    ∷ case 3 (tallies 1 0 0 0) (sent_by 3 0x01 0xC4 ((1 ∷ 1 ∷ 1 ∷ 0 ∷ 0 ∷ []) ++ (1 ∷ replicate 15 0)) (1 ∷ [])) Ok (tallies 1 0 0 0)
+    ∷ case 3 (tallies 1 0 0 0) (sent_by 3 0x00 0xC1 (1 ∷ replicate 16 0) []) OK (tallies 1 0 0 0)
+    ∷ case 3 (tallies 1 0 0 0) (sent_by 3 0x01 0xC1 (1 ∷ replicate 8 0) []) OK (tallies 1 0 0 0)
+    ∷ case 3 (tallies 1 0 0 0) (sent_by 3 0x00 0xC4 (1 ∷ []) (9 ∷ [])) OK (tallies 1 0 0 0)
+    ∷ case 3 (tallies 1 0 0 0) (sent_by 3 0x01 0xC4 ((1 ∷ 1 ∷ 1 ∷ 0 ∷ 0 ∷ []) ++ (1 ∷ replicate 15 0)) (1 ∷ [])) OK (tallies 1 0 0 0)
     -- each comes to 4,294,967,295 and stays there
-    ∷ case 0 (tallies 4294967294 2 3 4) (requests 5) Ok (tallies 4294967295 2 3 4)
-    ∷ case 0 (tallies 4294967295 2 3 4) (requests 5) Ok (tallies 4294967295 2 3 4)
-    ∷ case 5 (tallies 1 4294967294 3 4) (requests 3) Ok (tallies 1 4294967295 3 4)
-    ∷ case 5 (tallies 1 4294967295 3 4) (requests 3) Ok (tallies 1 4294967295 3 4)
-    ∷ case 3 (tallies 1 2 4294967294 4) (hands_to 3 5) Ok (tallies 1 2 4294967295 4)
-    ∷ case 3 (tallies 1 2 4294967295 4) (hands_to 3 5) Ok (tallies 1 2 4294967295 4)
-    ∷ case 3 (tallies 1 2 3 4294967294) (gives_back 3) Ok (tallies 1 2 3 4294967295)
-    ∷ case 3 (tallies 1 2 3 4294967295) (gives_back 3) Ok (tallies 1 2 3 4294967295)
+    ∷ case 0 (tallies 4294967294 2 3 4) (requests 5) OK (tallies 4294967295 2 3 4)
+    ∷ case 0 (tallies 4294967295 2 3 4) (requests 5) OK (tallies 4294967295 2 3 4)
+    ∷ case 5 (tallies 1 4294967294 3 4) (requests 3) OK (tallies 1 4294967295 3 4)
+    ∷ case 5 (tallies 1 4294967295 3 4) (requests 3) OK (tallies 1 4294967295 3 4)
+    ∷ case 3 (tallies 1 2 4294967294 4) (hands_to 3 5) OK (tallies 1 2 4294967295 4)
+    ∷ case 3 (tallies 1 2 4294967295 4) (hands_to 3 5) OK (tallies 1 2 4294967295 4)
+    ∷ case 3 (tallies 1 2 3 4294967294) (gives_back 3) OK (tallies 1 2 3 4294967295)
+    ∷ case 3 (tallies 1 2 3 4294967295) (gives_back 3) OK (tallies 1 2 3 4294967295)
     ∷ []
 
 -- ---- sequences

@@ -2,8 +2,7 @@
 -- ("Messages"); what each is told, and the state that it leaves.
 use Rattle.std.specs.Prelude.{ℕ, cond, List, length}
 use Rattle.rules.specs.declared.Report.{Report}
-use Rattle.rules.specs.declared.Verdict.{Verdict}
-use Rattle.rules.specs.Verdict.{accepted}
+use Rattle.rules.specs.Verdict.{Verdict, accepted}
 use Rattle.rules.specs.Description.{board_verdict, described}
 use Rattle.rules.specs.AccessList.{entries_of, verdict_of}
 use Rattle.rules.specs.Block.{list_part, block_verdict}

@@ -1,9 +1,9 @@
 -- Document 02, L8, "Larger boards": a board description; why one is refused, in order; the board that an accepted one leaves; and document 01's
 -- board, "Our board", which is one description.
-use Rattle.std.specs.Prelude.{ℕ, zero, suc, ◌+◌, ◌≤◌, ◌≡◌, Bool, true, false, cond, not, ◌&&◌, ◌||◌, List, [], ◌∷◌, ◌++◌, map, length, get_or, drop, eqb, ltb, leb}
+use Rattle.std.specs.Prelude.{ℕ, zero, suc, ◌+◌, ◌≤◌, ◌≡◌, Bool, true, false, cond, not, ◌&&◌, ◌||◌, List, [], ◌∷◌, ◌++◌, map, length, get_or, drop, eqb, ltb, leb, Err}
 use Rattle.rules.specs.declared.Item.{Item}
-use Rattle.rules.specs.declared.Verdict.{Verdict}
-use Rattle.rules.specs.declared.Verdict.TheVariants.{Accepted, A1, D1, D2, D3, D4, D5, D6}
+use Rattle.rules.specs.Verdict.{Verdict, Accepted}
+use Rattle.rules.specs.declared.Fault.TheVariants.{A1, D1, D2, D3, D4, D5, D6}
 use Rattle.rules.specs.Table.{Line, ◌gives◌, first_of, any_of, place_of, all_from, table_of}
 use Rattle.rules.specs.Bytes.{byte_at, u16_at, field_head}
 use Rattle.rules.specs.Board.{Board, r5, armv8, rows, host_limit, row_of, on_board, class_of, home_at, home_of}
@@ -130,12 +130,12 @@ is_full d x = cond (is_host x) (leb host_limit (length d.hosts)) (leb rows (leng
 -- D1 to D6 of one item, after what the items before it list. An unknown mark or class is one above 1
 unfoldable pub item_table : Description → Item → List (Line Verdict)
 item_table d x =
-    (eqb x.tag 0 gives D1)
-    ∷ (eqb x.number 0 gives D2)
-    ∷ (repeats d x gives D3)
-    ∷ (ltb 1 x.mark gives D4)
-    ∷ (other_class d x gives D5)
-    ∷ (is_full d x gives D6)
+    (eqb x.tag 0 gives Err D1)
+    ∷ (eqb x.number 0 gives Err D2)
+    ∷ (repeats d x gives Err D3)
+    ∷ (ltb 1 x.mark gives Err D4)
+    ∷ (other_class d x gives Err D5)
+    ∷ (is_full d x gives Err D6)
     ∷ []
 
 -- the host, and the processor, that an item describes
@@ -159,7 +159,7 @@ items_table d (x ∷ rest) = item_table d x ++ items_table (with_item d x) rest
 
 -- "only before a list, otherwise A1, tested first"; from L1 on, or before a block
 unfoldable pub description_table : Bool → List ℕ → List (Line Verdict)
-description_table listed bytes = (listed gives A1) ∷ items_table nothing_listed (items_in bytes)
+description_table listed bytes = (listed gives Err A1) ∷ items_table nothing_listed (items_in bytes)
 
 unfoldable pub board_verdict : Bool → List ℕ → Verdict
 board_verdict listed bytes = first_of Accepted (description_table listed bytes)

@@ -1,9 +1,8 @@
 -- Document 02, L1: the host hierarchy of the security board configuration (source document 004), 68 bytes: magic 0x8D27, size 68, and 32 pairs of
 -- host and supervisor. Why it is refused, in order; following supervisors, and the loop that this may come to.
-use Rattle.std.specs.Prelude.{ℕ, zero, suc, ◌≤◌, ◌≡◌, Bool, true, false, cond, not, ◌&&◌, ◌||◌, List, [], ◌∷◌, ◌++◌, length, eqb}
-use Rattle.rules.specs.declared.Verdict.{Verdict}
-use Rattle.rules.specs.declared.Verdict.TheVariants.{B3, B4, B5, B6, B7, B8}
-use Rattle.rules.specs.Verdict.{verdict_number}
+use Rattle.std.specs.Prelude.{ℕ, zero, suc, ◌≤◌, ◌≡◌, Bool, true, false, cond, not, ◌&&◌, ◌||◌, List, [], ◌∷◌, ◌++◌, length, eqb, Err}
+use Rattle.rules.specs.declared.Fault.TheVariants.{B3, B4, B5, B6, B7, B8}
+use Rattle.rules.specs.Verdict.{Verdict}
 use Rattle.rules.specs.Table.{Line, ◌gives◌, place_of}
 use Rattle.rules.specs.Bytes.{byte_at}
 use Rattle.rules.specs.Board.{Board, board_host}
@@ -56,21 +55,17 @@ loop_host entries = first_host (on_loop entries) entries
 -- B5 to B7 of one entry, after the entries before it. Supervisor 0 is a board host
 unfoldable pub pair_table : Board → List (List ℕ) → List ℕ → List (Line Verdict)
 pair_table b earlier pair =
-    (used pair && not (board_host b (host_in pair)) gives B5)
-    ∷ (used pair && not (board_host b (supervisor_in pair)) gives B6)
-    ∷ (used pair && named_in earlier (host_in pair) gives B7)
+    (used pair && not (board_host b (host_in pair)) gives Err B5)
+    ∷ (used pair && not (board_host b (supervisor_in pair)) gives Err B6)
+    ∷ (used pair && named_in earlier (host_in pair) gives Err B7)
     ∷ []
 
--- B3 and B4, then the entries 0 to 31, and after the last one the loop
+-- B3 and B4, then the entries 0 to 31, and after the last one the loop, whose first host in entry order B8 reports
 unfoldable pub hierarchy_table : Board → List ℕ → List (Line Verdict)
 hierarchy_table b bytes =
-    (not (eqb (magic_in bytes) 0x8D27) gives B3)
-    ∷ (not (eqb (size_in bytes) hierarchy_size) gives B4)
-    ∷ (in_turn (pair_table b) [] (pairs bytes) ++ ((not (eqb (loop_host (pairs bytes)) 0) gives B8) ∷ []))
-
--- with B8 the host is reported, with any other verdict none, which is 0
-unfoldable pub loop_reported : Verdict → List ℕ → ℕ
-loop_reported v bytes = cond (eqb (verdict_number v) 108) (loop_host (pairs bytes)) 0
+    (not (eqb (magic_in bytes) 0x8D27) gives Err B3)
+    ∷ (not (eqb (size_in bytes) hierarchy_size) gives Err B4)
+    ∷ (in_turn (pair_table b) [] (pairs bytes) ++ ((not (eqb (loop_host (pairs bytes)) 0) gives Err (B8 (loop_host (pairs bytes)))) ∷ []))
 
 -- ---- what this means, for a way of any length; shown in proofs/Hierarchy.antt
 

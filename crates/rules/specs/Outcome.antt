@@ -1,10 +1,10 @@
 -- "Outcomes, in the order they are tested", with "Right (N7)" and "Operands (N8)". What a call can see of the state is a `View` and what
 -- it is asked a `Query`, so that their types show on what an outcome depends.
-use Rattle.std.specs.Prelude.{ℕ, Bool, true, false, not, ◌&&◌, ◌||◌, List, [], ◌∷◌, ◌++◌, length, eqb, ltb}
+use Rattle.std.specs.Prelude.{ℕ, Bool, true, false, not, ◌&&◌, ◌||◌, List, [], ◌∷◌, ◌++◌, length, eqb, ltb, Option, Result, Ok, Err}
 use Rattle.rules.specs.declared.Kind.{Kind}
 use Rattle.rules.specs.declared.Kind.TheVariants.{Request, Release, Handover, SetConfig, SetControl, AuthBoot, GetStatus, WaitStatus, Other}
-use Rattle.rules.specs.declared.Outcome.{Outcome}
-use Rattle.rules.specs.declared.Outcome.TheVariants.{R1, R2, N1, N2, N3, N4, N5, N6, N7, N8, R3, N9, Ok}
+use Rattle.rules.specs.declared.Refusal.{Refusal}
+use Rattle.rules.specs.declared.Refusal.TheVariants.{R1, R2, R3, N1, N2, N3, N4, N5, N6, N7, N8, N9}
 use Rattle.rules.specs.declared.Record.{Record}
 use Rattle.rules.specs.declared.Role.{Role}
 use Rattle.rules.specs.Table.{Line, ◌gives◌, first_of}
@@ -14,6 +14,13 @@ use Rattle.rules.specs.Role.{role_of, is_master, permits, permitted}
 use Rattle.rules.specs.Message.{Query, largest_answer, host_of, is_kind, kind_in, size_of, subject_of, new_host_of, vector_low_of, config_set_of, config_clear_of, control_set_of, control_clear_of, wait_in}
 use Rattle.rules.specs.Flags.{flags_good, config_good}
 use Rattle.rules.specs.Wait.{wait_good, ran_out}
+
+-- what a message comes to: OK, or refused by a row
+abbrev pub Outcome : Type 0
+Outcome = Result Unit Refusal
+
+abbrev pub OK : Outcome
+OK = Ok tt
 
 -- what a message call sees of the state: the board, whether a list was accepted, and the entry and the record of the processor named
 pub record View : Type 0 where
@@ -61,11 +68,11 @@ abbrev pub is_controller : Record → ℕ → Bool
 is_controller r h = eqb r.controller h
 
 -- the sender's role for the processor named
-abbrev pub sender_role : View → Query → Role
+abbrev pub sender_role : View → Query → Option Role
 sender_role v q = role_of v.board v.entry q.channel
 
 -- the processor is free and the sender permitted, or the sender is its recovery master
-abbrev pub may_request : Role → Record → Bool
+abbrev pub may_request : Option Role → Record → Bool
 may_request role r = is_free r && permits role || is_master role
 
 abbrev pub has_right : Kind → View → Query → Bool
@@ -111,29 +118,29 @@ wait_failed k q = is_kind k WaitStatus && ran_out (wait_in q.message) q.status
 -- before the type: R1 to N2
 unfoldable pub before_type : Board → Bool → Query → List (Line Outcome)
 before_type b listed q =
-    (room_too_small q gives R1)
-    ∷ (length_wrong q gives R2)
-    ∷ (not listed gives N1)
-    ∷ (sender_wrong b q gives N2)
+    (room_too_small q gives Err R1)
+    ∷ (length_wrong q gives Err R2)
+    ∷ (not listed gives Err N1)
+    ∷ (sender_wrong b q gives Err N2)
     ∷ []
 
 -- the type: N3
 unfoldable pub on_type : Kind → List (Line Outcome)
-on_type k = (type_unknown k gives N3) ∷ []
+on_type k = (type_unknown k gives Err N3) ∷ []
 
 -- behind the type: N4 to N8
 unfoldable pub behind_type : View → Query → Kind → List (Line Outcome)
 behind_type v q k =
-    (too_short k q gives N4)
-    ∷ (not_offered k gives N5)
-    ∷ (off_board v.board q gives N6)
-    ∷ (not (has_right k v q) gives N7)
-    ∷ (not (operands_good k v q) gives N8)
+    (too_short k q gives Err N4)
+    ∷ (not_offered k gives Err N5)
+    ∷ (off_board v.board q gives Err N6)
+    ∷ (not (has_right k v q) gives Err N7)
+    ∷ (not (operands_good k v q) gives Err N8)
     ∷ []
 
 -- by the status words: R3 and N9
 unfoldable pub by_words : Query → Kind → List (Line Outcome)
-by_words q k = (words_missing k q gives R3) ∷ (wait_failed k q gives N9) ∷ []
+by_words q k = (words_missing k q gives Err R3) ∷ (wait_failed k q gives Err N9) ∷ []
 
 -- R1 to N8 say whether a message is admitted
 unfoldable pub admission : View → Query → Kind → List (Line Outcome)
@@ -151,27 +158,28 @@ unfoldable pub outcome_table : View → Query → Kind → List (Line Outcome)
 outcome_table v q k = admission v q k ++ by_words q k
 
 unfoldable pub outcome_of : View → Query → Outcome
-outcome_of v q = first_of Ok (outcome_table v q (kind_in q.message))
+outcome_of v q = first_of OK (outcome_table v q (kind_in q.message))
 
 -- document 01's number of an outcome: 0 for OK, k for Nk, 100 + k for Rk
 abbrev pub outcome_number : Outcome → ℕ
-outcome_number Ok = 0
-outcome_number N1 = 1
-outcome_number N2 = 2
-outcome_number N3 = 3
-outcome_number N4 = 4
-outcome_number N5 = 5
-outcome_number N6 = 6
-outcome_number N7 = 7
-outcome_number N8 = 8
-outcome_number N9 = 9
-outcome_number R1 = 101
-outcome_number R2 = 102
-outcome_number R3 = 103
+outcome_number (Ok _) = 0
+outcome_number (Err N1) = 1
+outcome_number (Err N2) = 2
+outcome_number (Err N3) = 3
+outcome_number (Err N4) = 4
+outcome_number (Err N5) = 5
+outcome_number (Err N6) = 6
+outcome_number (Err N7) = 7
+outcome_number (Err N8) = 8
+outcome_number (Err N9) = 9
+outcome_number (Err R1) = 101
+outcome_number (Err R2) = 102
+outcome_number (Err R3) = 103
 
 -- "carried out", 01's term: outcome OK, answered or not
 unfoldable pub carried_out : Outcome → Bool
-carried_out o = eqb (outcome_number o) 0
+carried_out (Ok _) = true
+carried_out (Err _) = false
 
 -- R1 to R3, of which the sender is told nothing
 unfoldable pub silent : Outcome → Bool

@@ -4,12 +4,10 @@ use Rattle.std.specs.Prelude.{ℕ, zero, suc, ◌+◌, ◌*◌, ◌/◌, ◌%◌
 use Rattle.rules.specs.declared.Found.{Found}
 use Rattle.rules.specs.declared.Found.TheVariants.{Whole, Bad, Partial, Nothing}
 use Rattle.rules.specs.declared.Report.{Report}
-use Rattle.rules.specs.declared.Verdict.{Verdict}
 use Rattle.rules.specs.Table.{◌gives◌, first_of}
 use Rattle.rules.specs.Bytes.{byte_at, u16_at, u32_at, field_head}
-use Rattle.rules.specs.Verdict.{verdict_number}
+use Rattle.rules.specs.Verdict.{Verdict, verdict_number, reported_host}
 use Rattle.rules.specs.Description.{ours}
-use Rattle.rules.specs.Block.{reported_host}
 use Rattle.rules.specs.Message.{largest_answer}
 use Rattle.rules.specs.Outcome.{outcome_number}
 use Rattle.rules.specs.State.{State, fresh}
@@ -173,8 +171,8 @@ block_word = ascii "block "
 abbrev pub board_word : List ℕ
 board_word = ascii "board "
 
-unfoldable pub offer_line : List ℕ → Verdict → ℕ → List ℕ
-offer_line word v host = word ++ verdict_line (verdict_number v) host
+unfoldable pub offer_line : List ℕ → Verdict → List ℕ
+offer_line word v = word ++ verdict_line (verdict_number v) (reported_host v)
 
 -- tag 3 prints outcome, checks, microseconds and answer, with single spaces
 abbrev pub outcome_text : ℕ → ℕ → ℕ → List ℕ → List ℕ
@@ -190,11 +188,9 @@ message_line r bytes = outcome_text (outcome_number r.outcome) r.checks r.micros
 
 -- the line of a call
 unfoldable pub line_of : State → Call → List ℕ
-line_of s (offer (board bytes)) = offer_line board_word (verdict_to s (board bytes)) 0
-line_of s (offer (list bytes)) = offer_line list_word (verdict_to s (list bytes)) 0
-line_of s (offer (block major minor bytes)) =
-    let v = verdict_to s (block major minor bytes) in
-    offer_line block_word v (reported_host v bytes)
+line_of s (offer (board bytes)) = offer_line board_word (verdict_to s (board bytes))
+line_of s (offer (list bytes)) = offer_line list_word (verdict_to s (list bytes))
+line_of s (offer (block major minor bytes)) = offer_line block_word (verdict_to s (block major minor bytes))
 line_of s (message lent) = message_line (answer_to s (query_of lent)).report (answer_to s (query_of lent)).bytes
 
 -- ---- a field carried out: the session that it leaves, and the line that it prints

@@ -2,7 +2,7 @@
 -- of one width. An entry's first byte names the processor or the host that the entry is of, and 0 marks it unused. The access list is one, and the
 -- host hierarchy; of the OTP part the header alone is read.
 use Rattle.std.specs.Prelude.{ℕ, zero, suc, ◌+◌, ◌*◌, Bool, not, ◌&&◌, List, [], ◌∷◌, ◌++◌, take, drop, eqb}
-use Rattle.rules.specs.declared.Verdict.{Verdict}
+use Rattle.rules.specs.Verdict.{Verdict}
 use Rattle.rules.specs.Table.{Line, any_of}
 use Rattle.rules.specs.Bytes.{byte_at, u16_at}
 

@@ -2,9 +2,9 @@
 // so that a contract can equate what the code gives with what a rule gives. No function is here.
 #![tactic(auto)]
 
-// What a message comes to: document 01's table of outcomes, in its order.
+// Why a message is refused: the rows of document 01's table of outcomes, in its order.
 #[derive(Clone, Copy)]
-pub enum Outcome {
+pub enum Refusal {
     R1,
     R2,
     N1,
@@ -17,14 +17,15 @@ pub enum Outcome {
     N8,
     R3,
     N9,
-    Ok,
 }
 
-// What an offer comes to, an access list, a security board configuration or a board description: accepted,
-// or refused by a row of document 01's table or of document 02's.
+// What a message comes to: OK, or refused.
+pub type Outcome = Result<(), Refusal>;
+
+// Why an offer is refused, an access list, a security board configuration or a board description: the rows of
+// document 01's table and of document 02's. B8 reports a host on the loop.
 #[derive(Clone, Copy)]
-pub enum Verdict {
-    Accepted,
+pub enum Fault {
     A1,
     A2,
     A3,
@@ -40,7 +41,7 @@ pub enum Verdict {
     B5,
     B6,
     B7,
-    B8,
+    B8(u8),
     B9,
     B10,
     D1,
@@ -51,13 +52,8 @@ pub enum Verdict {
     D6,
 }
 
-// What a security board configuration comes to: the verdict, and the host that B8 reports, 0 with any
-// other verdict.
-#[derive(Clone, Copy)]
-pub struct BlockReport {
-    pub verdict: Verdict,
-    pub host: u8,
-}
+// What an offer comes to: accepted, or refused.
+pub type Verdict = Result<(), Fault>;
 
 // One item of a board description, by its tag: 1 a host, 2 a processor, 0 for a field that is neither.
 // The mark of a host says whether it is secure, that of a processor is its class. A host's cluster is 0.
@@ -119,11 +115,10 @@ pub struct Wait {
     pub anyclear: u32,
 }
 
-// What a host is to a processor: its recovery master, its secondary 0, 1 or 2, a host on a processor that
-// is open since it has no entry, or none of these.
-#[derive(Clone, Copy)]
+// What a host that is permitted is to a processor: its recovery master, its secondary 0, 1 or 2, or a host on
+// a processor that is open since it has no entry.
+#[derive(Clone, Copy, PartialEq, Eq)]
 pub enum Role {
-    None,
     Master,
     Secondary0,
     Secondary1,
@@ -132,14 +127,14 @@ pub enum Role {
 }
 
 // What a message call reports: the outcome, the checks a wait made and the microseconds it took, how many
-// bytes were written to the answer buffer, and the sender's role in a request.
+// bytes were written to the answer buffer, and the sender's role in a request, if it has one.
 #[derive(Clone, Copy)]
 pub struct Report {
     pub outcome: Outcome,
     pub checks: u32,
     pub micros: u32,
     pub written: usize,
-    pub role: Role,
+    pub role: Option<Role>,
 }
 
 // What the bytes of a recording begin with.

@@ -4,19 +4,18 @@ use Prim.Native.Nat.{ℕ}
 use mathlib.Core.Path.{◌≡◌, refl, subst⁻¹}
 use mathlib.Core.List.{List, [], ◌∷◌, ◌++◌}
 use lib.ListN.{replicate}
-use Rattle.rules.specs.declared.Outcome.TheVariants.{Ok}
+use Rattle.std.specs.Prelude.{Some}
 use Rattle.rules.specs.declared.Report.{Report}
 use Rattle.rules.specs.declared.Role.TheVariants.{Master}
-use Rattle.rules.specs.declared.Verdict.TheVariants.{Accepted}
 use Rattle.rules.specs.Table.{first_of, any_of, all_of, place_of, all_from, table_of}
 use Rattle.rules.specs.Board.{Board, board_host, active_host, row_of, on_board, class_at, class_of, home_at, home_of, share_control}
 use Rattle.rules.specs.Description.{our_description, lists_processor, mark_in, row_in, class_in, shared_cluster, shared_in, home_in, board_of, ours}
-use Rattle.rules.specs.Verdict.{accepted}
+use Rattle.rules.specs.Verdict.{Accepted, accepted}
 use Rattle.rules.specs.Substructure.{parts_of, named_in, in_turn}
 use Rattle.rules.specs.AccessList.{no_entry, entry_table, content_table, list_table, verdict_of, entry_in, with_part, with_parts, no_entries, entries_of, has_entry}
 use Rattle.rules.specs.Role.{names_host, role_table, role_of, permitted}
 use Rattle.rules.specs.Message.{answer_asked, kind_of, wait_in, subject_of, names_processor, is_about}
-use Rattle.rules.specs.Outcome.{sender_wrong, words_missing, wait_failed, before_type, on_type, behind_type, admission, by_words, outcome_table, outcome_of, carried_out, silent}
+use Rattle.rules.specs.Outcome.{OK, sender_wrong, words_missing, wait_failed, before_type, on_type, behind_type, admission, by_words, outcome_table, outcome_of, carried_out, silent}
 use Rattle.rules.specs.Tally.{grants, no_tallies, tally_of, counts_for, one_more, tally_after, tallies_after}
 use Rattle.rules.specs.Effect.{record_after}
 use Rattle.rules.specs.Answer.{buffer_after, ack_bytes, bytes_for, answer_bytes, answer_of, waited, tells_role, report_of}
@@ -78,7 +77,7 @@ asked = lending 3 (0x00 ∷ 0xC0 ∷ 3 ∷ 0x07 ∷ 0x02 ∷ 0x00 ∷ 0x00 ∷ 0
 
 -- what the call tells: OK, with the role of the recovery master
 abbrev told_request : Report
-told_request = record { outcome = Ok; checks = 0; micros = 0; written = 8; role = Master }
+told_request = record { outcome = OK; checks = 0; micros = 0; written = 8; role = (Some Master) }
 
 abbrev request-step : Step
 request-step = message_step asked listed-memories held-memories 0 (0 ∷ 0 ∷ 8 ∷ 1 ∷ []) (header 0x00 0xC0 3 2 ++ replicate 21 0xFF)

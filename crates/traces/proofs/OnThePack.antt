@@ -5,9 +5,8 @@ use mathlib.Core.Path.{◌≡◌, refl}
 use mathlib.Core.Bool.{false}
 use mathlib.Core.List.{List, [], ◌∷◌}
 use lib.ListN.{replicate}
-use Rattle.rules.specs.declared.Verdict.TheVariants.{Accepted}
 use Rattle.rules.specs.Table.{first_of, any_of, all_of, place_of, all_from, table_of}
-use Rattle.rules.specs.Verdict.{accepted}
+use Rattle.rules.specs.Verdict.{Accepted, accepted}
 use Rattle.rules.specs.Board.{board_host, active_host, row_of, on_board, home_at, home_of, share_control}
 use Rattle.rules.specs.Description.{nothing_listed, body_size, field_good, no_item, item_in, field_size, items_from, items_in, lists_host, lists_processor, repeats, other_class, is_full, item_table, with_item, items_table, description_table, board_verdict, with_items, description_in, mark_in, row_in, class_in, shared_cluster, shared_in, home_in, share_word, board_of, described, ours}
 use Rattle.rules.specs.Substructure.{parts_of, named_in, in_turn}

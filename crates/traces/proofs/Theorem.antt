@@ -8,11 +8,10 @@ use mathlib.Core.Logic.{⊎_elim}
 use lib.ListN.{replicate}
 use lib.Dec.{eqb}
 use borrow.Author.Tests.{eq-eqb}
-use Rattle.rules.specs.declared.Verdict.{Verdict}
 use Rattle.rules.specs.Table.{any_of, all_of}
 use Rattle.rules.specs.Board.{Board, row_of}
 use Rattle.rules.specs.Description.{description_in, board_of, described, ours, Good}
-use Rattle.rules.specs.Verdict.{verdict_number, accepted}
+use Rattle.rules.specs.Verdict.{Verdict, verdict_number, accepted}
 use Rattle.rules.specs.Substructure.{named_in}
 use Rattle.rules.specs.AccessList.{parts, verdict_of}
 use Rattle.rules.specs.Block.{list_part}
@@ -20,6 +19,8 @@ use Rattle.rules.specs.Outcome.{outcome_number, carried_out}
 use Rattle.rules.specs.State.{listed, State, fresh, record_of, stored}
 use Rattle.rules.specs.Call.{Offer, list, block, verdict_to, taken, after_offer, after_message, answer_to, Lent, query_of, Call, offer, message, next}
 use Rattle.rules.specs.Sequence.{run, free_or_permitted}
+use Rattle.rules.proofs.Outcomes.{number_carried}
+use Rattle.rules.proofs.Verdicts.{number_accepts}
 use Rattle.rules.proofs.Tests.{decide, cond-true}
 use Rattle.rules.proofs.Sound.{offer_kept as kept-by-offer, first_accepted, block_as_list, left-sound}
 use Rattle.noninterference.specs.Statement.{clusters_whole, loads, list_of, answers, Noninterference, board_left}
@@ -94,9 +95,8 @@ begun_by calls bytes m taken after =
 -- what a step is told of its offer is what the rules tell, and 0 is accepted
 module _ (before : Memories) (s : State) (holds : Holds before s) {told : Verdict} (o : Offer) where
   told_accepted : {number : ℕ} → verdict_to (state_of before) o ≡ told → number ≡ verdict_number told → number ≡ 0 → accepted (verdict_to s o) ≡ true
-  unfolding accepted
   told_accepted by-memory numbered ok =
-      ap accepted (sym (verdict_kept s o) ∙ ap (λ (t : State). verdict_to t o) (sym holds) ∙ by-memory) ∙ eq-eqb _ 0 (sym numbered ∙ ok)
+      ap accepted (sym (verdict_kept s o) ∙ ap (λ (t : State). verdict_to t o) (sym holds) ∙ by-memory) ∙ number_accepts told (sym numbered ∙ ok)
 
 -- the last step accepted the list, alone or in a block
 begun_step : (x : Step) (bytes : List ℕ) (calls : List Call) → Loads x bytes → Meets x → Holds (before_of x) (run (fresh ours) calls)
@@ -223,6 +223,7 @@ of_the_code b bytes chosen named whole =
           let last = message_step lent before after outcome report held ∷ [] in
           ap (λ (n : ℕ). eqb n 0)
           (last-told b bytes chosen named whole loaded steps lent before after outcome report held (trace_first steps last trace) (trace_then steps last trace))
+          ∙ number_carried _
           ∙ (by_rules b bytes chosen named whole loaded).outsider-refused (calls_of steps) (query_of lent) about out;
     }
 

@@ -83,18 +83,13 @@ fn run_after(matching: bool, run: usize) -> usize
 pub fn ending_check(w: Wait, status: &[u32]) -> usize
     ensures { result ≡ ending_check w status.now }
 {
-    let waits = w.waits as usize;
-    let matches = w.matches as usize;
+    let waits = usize::from(w.waits);
+    let matches = usize::from(w.matches);
     let mut run = 0;
-    let mut checks = 0;
-    while checks < waits {
-        if status.len() <= checks {
-            return 0;
-        }
-        run = run_after(word_matches(w, status[checks]), run);
-        checks += 1;
+    for (i, word) in status.iter().take(waits).enumerate() {
+        run = run_after(word_matches(w, *word), run);
         if matches <= run {
-            return checks;
+            return i + 1;
         }
     }
     0

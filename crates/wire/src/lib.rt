@@ -6,6 +6,6 @@ mod read;
 mod tagged;
 mod write;
 
-pub use read::{byte_at, joined, u16_at, u32_at};
+pub use read::{byte_at, item_or, joined, u16_at, u32_at};
 pub use tagged::{FIELD_HEAD, Tagged, tagged_at};
 pub use write::{move_down, put, put_u32};

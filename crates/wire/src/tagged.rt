@@ -3,7 +3,7 @@
 ghost use Rattle.std.specs.Prelude.{◌≡◌};
 ghost use Rattle.wire.specs.Tagged.{tagged_at};
 
-use crate::read::paired;
+use crate::read::{paired, rest_at};
 
 // How many bytes a field has before its body: the tag and the length.
 pub const FIELD_HEAD: usize = 3;
@@ -25,18 +25,15 @@ pub enum Tagged {
 pub fn tagged_at(bytes: &[u8], at: usize) -> Tagged
     ensures { result ≡ tagged_at bytes.now at }
 {
-    if bytes.len() <= at {
-        return Tagged::End;
+    match rest_at(bytes, at) {
+        [] => Tagged::End,
+        [tag, low, high, body @ ..] => {
+            let length = paired(*low, *high);
+            if body.len() < usize::from(length) {
+                return Tagged::Head(*tag, length);
+            }
+            Tagged::Field(*tag, length)
+        }
+        [tag, ..] => Tagged::Tag(*tag),
     }
-    let left = bytes.len() - at;
-    let tag = bytes[at];
-    if left < FIELD_HEAD {
-        return Tagged::Tag(tag);
-    }
-    let place = at + 1;
-    let length = paired(bytes[place], bytes[place + 1]);
-    if left - FIELD_HEAD < length as usize {
-        return Tagged::Head(tag, length);
-    }
-    Tagged::Field(tag, length)
 }

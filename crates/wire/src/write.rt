@@ -7,6 +7,7 @@ ghost use Rattle.rules.specs.Bytes.{with_u32};
 
 // Puts a number at place `at`, lowest byte first. Where its four bytes do not fit there, nothing is
 // written.
+#[tactic(auto, using(crate::proofs::Numbers::u32_unfit, crate::proofs::Numbers::u32_put))]
 pub fn put_u32(bytes: &mut [u8], at: usize, number: u32)
     ensures { bytes.new ≡ with_u32 bytes.old at number }
 {
@@ -16,14 +17,11 @@ pub fn put_u32(bytes: &mut [u8], at: usize, number: u32)
     if bytes.len() - at < 4 {
         return;
     }
-    bytes[at] = (number % 256) as u8;
-    bytes[at + 1] = (number / 256 % 256) as u8;
-    bytes[at + 2] = (number / 65536 % 256) as u8;
-    bytes[at + 3] = (number / 16777216 % 256) as u8;
+    bytes[at..at + 4].copy_from_slice(&number.to_le_bytes());
 }
 
 // Puts `bytes` at the start of `buffer` and gives their number. Where they do not fit, nothing is
-// written and the number is 0.
+// written and the number is 0. A loop, as `copy_from_slice` would call `memmove`, which firmware may not have.
 pub fn put(buffer: &mut [u8], bytes: &[u8]) -> usize
     ensures value { result ≡ cond (leb (length bytes.now) (length buffer.old)) (length bytes.now) 0 }
     ensures buffer_after { buffer.new ≡ cond (leb (length bytes.now) (length buffer.old))
@@ -32,12 +30,10 @@ pub fn put(buffer: &mut [u8], bytes: &[u8]) -> usize
     if buffer.len() < bytes.len() {
         return 0;
     }
-    let mut i = 0;
-    while i < bytes.len() {
-        buffer[i] = bytes[i];
-        i += 1;
+    for (i, byte) in bytes.iter().enumerate() {
+        buffer[i] = *byte;
     }
-    i
+    bytes.len()
 }
 
 // Moves the bytes of `buffer` from `from` up to `end` to its start, and gives their number: none where
@@ -52,11 +48,6 @@ pub fn move_down(buffer: &mut [u8], from: usize, end: usize) -> usize
     if end < from {
         return 0;
     }
-    let left = end - from;
-    let mut n = 0;
-    while n < left {
-        buffer[n] = buffer[from + n];
-        n += 1;
-    }
-    left
+    buffer.copy_within(from..end, 0);
+    end - from
 }

@@ -1,48 +1,40 @@
--- `board_description::judge_description` meets its contract. The loop's invariant: the cursor is at an item, and none of those before has a fault.
-use Prim.Native.Nat.{◌+◌}
-use mathlib.Core.Path.{sym, ap, ◌∙◌}
-use mathlib.Core.Bool.{Bool}
-use native.Mathlib.Omega.{arith}
+-- `board_description::judge_description` meets its contract. The loop's invariant: none of the items seen has a fault.
+use Rattle.std.proofs.Common.{rules, arith, sym, ap, ◌∙◌, ◌≡◌, Bool, inl}
+use Rattle.std.proofs.lemmas.List.{map-append}
 use Rattle.rules.specs.Table.{first_of}
-use Rattle.rules.specs.Description.{description_table, board_verdict}
-use Rattle.board_description.proofs.Fields.{field_some}
-use Rattle.board_description.proofs.Verdicts.{Reached, reached_start, turn-bad, turn-good, end_verdict}
+use Rattle.rules.specs.Verdict.{Accepted}
+use Rattle.rules.specs.Description.{board_verdict, item_table}
+use Rattle.board_description.specs.EarlierItems.{listed_before}
+use Rattle.board_description.proofs.Listed.{items_few}
+use Rattle.board_description.proofs.Verdicts.{reached_start, turn-bad, turn-good, end_verdict}
 use Rattle.board_description.proofs.judge_description.Goals as goal
-use Rattle.board_description.proofs.judge_description.Goals.{After-field_size-at}
 
-pub returns-then-listed : goal.returns-then-listed
-unfolding board_verdict description_table first_of
-returns-then-listed c = rw c.if-listed.true
+pub loop-count-init : goal.loop-count-init
+loop-count-init c =
+    rw (c.into_iter-count-iterator.ensures.into_iter_gives, c.enumerate-count-items.ensures.source, c.enumerate-count-items.ensures.count) (reached_start _)
 
-pub loop-at-init : goal.loop-at-init
-loop-at-init c = reached_start c.args.description.now
+pub loop-count-init-derived : goal.loop-count-init-derived
+loop-count-init-derived c =
+    let few = items_few c.args.description.now in
+    ((tt, tt, inl (rw (c.into_iter-count-iterator.ensures.into_iter_gives, c.enumerate-count-items.ensures.source, c.enumerate-count-items.ensures.count) (omega (arith, few)))), tt)
 
-pub returns-in_default : goal.returns-in_default
-returns-in_default c =
-    let l = c in
-    sym
-    (ap (λ (b : Bool). board_verdict b l.args.description.now) l.if-listed.false
-    ∙ turn-bad l.loop-at.invariant c.loop-at-test.true
-    c.item_at-item.ensures c.fault_of.ensures c.in_default.not-Accepted)
+pub returns-in_err-fault_of : goal.returns-in_err-fault_of
+returns-in_err-fault_of c =
+    let next = c.in-Some.ensures.steps in
+    let told : c.fault_of.result ≡ first_of Accepted (item_table (listed_before c.args.description.now c.loop-count.count-iterator.count) c.in-Some.item) =
+    rw (sym next.1) c.fault_of.ensures
+    in
+    let bad = turn-bad c.loop-count.invariant next.0 (sym c.in_err-fault_of.was ∙ told) (λ e. cc) in
+    rw c.if-listed.false (search rules)
 
--- it has none: the cursor goes on
-
-next : (c : After-field_size-at) → Reached c.args.description.now (c.loop-at.at + c.field_size-at.result) (c.loop-at.count + 1)
-next c =
-    turn-good c.loop-at.invariant c.loop-at-test.true c.item_at-item.ensures (sym c.fault_of.ensures ∙ c.in-Accepted.is)
-    c.field_size-at.ensures
-
-pub overflow_add-at : goal.overflow_add-at
-overflow_add-at c = omega (arith, (next (goal.at.overflow_add-at c).After-field_size-at).within)
-
-pub loop-at-smaller : goal.loop-at-smaller
-loop-at-smaller c = omega (arith, (next (goal.at.loop-at-smaller c).After-field_size-at).within, c.field_size-at.ensures, field_some c.item_at-item.result)
-
-pub loop-at-preserved : goal.loop-at-preserved
-loop-at-preserved c = next (goal.at.loop-at-preserved c).After-field_size-at
+pub loop-count-preserved : goal.loop-count-preserved
+loop-count-preserved c =
+    let next = c.in-Some.ensures.steps in
+    rw (map-append (λ p. p.1) c.loop-count.yielded _, next.2)
+    (turn-good c.loop-count.invariant next.0 (rw (sym next.1) (sym c.fault_of.ensures ∙ c.in_ok-fault_of.was)))
 
 pub returns : goal.returns
 returns c =
     sym
     (ap (λ (b : Bool). board_verdict b c.args.description.now) c.if-listed.false
-    ∙ end_verdict c.loop-at.invariant c.loop-at-test.false)
+    ∙ end_verdict c.loop-count.invariant (c.in-None.ensures.steps.0).0)

@@ -1,10 +1,8 @@
-use Prim.Native.Nat.{◌-◌}
-use lib.ListN.{length}
+use mathlib.Core.List.{map}
+use Rattle.rules.specs.Description.{items_in}
 use Rattle.board_description.proofs.Verdicts.{Reached}
 use Rattle.board_description.proofs.judge_description.Given as goal
 
-abbrev pub invariant-loop-at : goal.invariant-loop-at
-invariant-loop-at l = Reached l.description l.at l.count
-
-abbrev pub decreases-loop-at : goal.decreases-loop-at
-decreases-loop-at l = length l.description - l.at
+abbrev pub invariant-loop-count : goal.invariant-loop-count
+invariant-loop-count l =
+    Reached l.description (map (λ p. p.1) l.yielded) (items_in l.count-iterator.iter.0.now) l.count-iterator.count

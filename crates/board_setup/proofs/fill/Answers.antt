@@ -1,33 +1,36 @@
--- `board_setup::fill` meets its contract. The loop's invariant: the cursor is at an item, the memory has the board that the items before it list,
--- and `row` is the first free one.
-use Prim.Native.Nat.{◌+◌}
-use native.Mathlib.Omega.{arith}
-use borrow.Author.Rules.{rules}
-use Rattle.board_description.proofs.Fields.{field_some}
-use Rattle.board_setup.proofs.Fills.{Filled, filled_start, fill_ready, fill_next, fill_end}
+-- `board_setup::fill` meets its contract. The loop's invariant: the memory has the board that the items seen list, and `row` is the first free one.
+use Rattle.std.proofs.Common.{rules, arith, sym, ◌≡◌, inl}
+use Rattle.std.proofs.lemmas.List.{map-append}
+use Rattle.board_description.specs.EarlierItems.{listed_before}
+use Rattle.board_description.proofs.Listed.{items_few}
+use Rattle.board_setup.specs.Setup.{put_item}
+use Rattle.board_setup.proofs.Fills.{filled_start, fill_ready, fill_next, fill_end}
 use Rattle.board_setup.proofs.fill.Goals as goal
-use Rattle.board_setup.proofs.fill.Goals.{After-field_size-at}
 
-pub loop-at-init : goal.loop-at-init
-loop-at-init c = filled_start c.args.description.now c.clear.ensures
+pub loop-count-init : goal.loop-count-init
+loop-count-init c =
+    rw (c.into_iter-count-iterator.ensures.into_iter_gives, c.enumerate-count-items.ensures.source, c.enumerate-count-items.ensures.count) (filled_start _ c.clear.ensures)
+
+pub loop-count-init-derived : goal.loop-count-init-derived
+loop-count-init-derived c =
+    let few = items_few c.args.description.now in
+    ((tt, tt, inl (rw (c.into_iter-count-iterator.ensures.into_iter_gives, c.enumerate-count-items.ensures.source, c.enumerate-count-items.ensures.count) (omega (arith, few)))), tt)
+
+pub put-requires-clause-behind : goal.put-requires-clause-behind
+put-requires-clause-behind c = rw c.in-Some.ensures.steps.1 c.loop-count.invariant.free
 
 pub put-requires-clause-mark_bound : goal.put-requires-clause-mark_bound
-put-requires-clause-mark_bound c =
-    let l = c in (fill_ready l.loop-at.invariant c.loop-at-test.true c.item_at-item.ensures l.requires).1
+put-requires-clause-mark_bound c = fill_ready c.loop-count.invariant c.in-Some.ensures.steps.0 c.requires
 
-next : (c : After-field_size-at) → Filled c.args.description.now c.put.new.board (c.loop-at.at + c.field_size-at.result) (c.loop-at.count + 1) c.row_after-row.result
-next c =
-    fill_next c.loop-at.invariant c.loop-at-test.true c.item_at-item.ensures c.requires (search rules) c.put.ensures
-    c.row_after-row.ensures c.field_size-at.ensures
-
-pub overflow_add-at : goal.overflow_add-at
-overflow_add-at c = omega (arith, (next (goal.at.overflow_add-at c).After-field_size-at).reached.within)
-
-pub loop-at-smaller : goal.loop-at-smaller
-loop-at-smaller c = omega (arith, (next (goal.at.loop-at-smaller c).After-field_size-at).reached.within, c.field_size-at.ensures, field_some c.item_at-item.result)
-
-pub loop-at-preserved : goal.loop-at-preserved
-loop-at-preserved c = next (goal.at.loop-at-preserved c).After-field_size-at
+pub loop-count-preserved : goal.loop-count-preserved
+loop-count-preserved c =
+    let l = c.loop-count in
+    let next = c.in-Some.ensures.steps in
+    let put : c.put.new.board ≡ put_item l.board (listed_before c.args.description.now l.count-iterator.count) c.in-Some.item l.row =
+    rw (sym next.1) c.put.ensures
+    in
+    rw (map-append (λ p. p.1) l.yielded _, next.2)
+    (fill_next l.invariant next.0 c.requires (search rules) put c.row_after-row.ensures)
 
 pub returns : goal.returns
-returns c = fill_end c.loop-at.invariant c.loop-at-test.false
+returns c = fill_end c.loop-count.invariant (c.in-None.ensures.steps.0).0

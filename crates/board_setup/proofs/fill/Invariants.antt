@@ -1,10 +1,8 @@
-use Prim.Native.Nat.{◌-◌}
-use lib.ListN.{length}
+use mathlib.Core.List.{map}
+use Rattle.rules.specs.Description.{items_in}
 use Rattle.board_setup.proofs.Fills.{Filled}
 use Rattle.board_setup.proofs.fill.Given as goal
 
-abbrev pub invariant-loop-at : goal.invariant-loop-at
-invariant-loop-at l = Filled l.description l.board l.at l.count l.row
-
-abbrev pub decreases-loop-at : goal.decreases-loop-at
-decreases-loop-at l = length l.description - l.at
+abbrev pub invariant-loop-count : goal.invariant-loop-count
+invariant-loop-count l =
+    Filled l.description l.board (map (λ p. p.1) l.yielded) (items_in l.count-iterator.iter.0.now) l.count-iterator.count l.row

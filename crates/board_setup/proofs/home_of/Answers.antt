@@ -1,78 +1,65 @@
--- `board_setup::home_of` meets its contract. The loop's invariant: the cursor is at item k, `earlier` is the first row behind the processors
--- passed, and none of those has the cluster's word.
-use Prim.Native.Nat.{ℕ, ◌+◌}
-use mathlib.Core.Path.{◌≡◌, refl, sym, ap, ◌∙◌}
+-- `board_setup::home_of` meets its contract. The loop's invariant: `earlier` is the first row behind the processors passed, and none of those
+-- has the cluster's word.
+use mathlib.Core.Path.{sym, ap, ◌∙◌}
+use mathlib.Core.List.{[], ◌∷◌, ◌++◌}
 use native.Mathlib.Omega.{arith}
-use Rattle.rules.specs.Table.{any_of}
-use Rattle.rules.specs.Description.{item_processor}
-use Rattle.board_description.specs.Cursor.{cursor_at, listed_before}
-use Rattle.board_description.proofs.Cursors.{cursor_order, cursor_item, cursor_step}
-use Rattle.board_setup.proofs.Rows.{has_word, rows-order, row_start, row_next, word_start, word_next, word-found, home_alone, home_first, home_own}
+use lib.ListN.{length, take}
+use Rattle.rules.specs.Table.{any_of, place_of}
+use Rattle.rules.specs.Description.{Description, nothing_listed, items_in, item_processor, with_items}
+use Rattle.board_description.proofs.Listed.{with_items-last, walk_start, walk_next, walk_listed, walk_here, walk_end}
+use Rattle.board_setup.proofs.Rows.{has_word, rows-order, row_start, row_next, word_start, word_none, word-found, home_alone, home_first, home_own}
 use Rattle.board_setup.proofs.home_of.Goals as goal
 
 pub returns-then-cluster-eq0 : goal.returns-then-cluster-eq0
 returns-then-cluster-eq0 c =
-    let start = c in
-    home_alone _ _ start.requires.item_value.0 start.requires.behind.free c.shared_cluster-cluster.ensures c.if-cluster-eq0.true
+    home_alone _ _ c.requires.item_value.0 c.requires.behind c.shared_cluster-cluster.ensures c.if-cluster-eq0.true
 
-pub loop-k-init : goal.loop-k-init
-unfolding cursor_at
-loop-k-init c =
-    let bytes = c.args.description.now in
-    (omega arith, refl, row_start bytes, word_start bytes c.shared_cluster-cluster.result)
+pub loop-passed-init : goal.loop-passed-init
+loop-passed-init c = (
+  rw (c.into_iter-passed-iterator.ensures.into_iter_gives, c.take-passed-items.ensures.source, c.take-passed-items.ensures.count) (walk_start _ _),
+  row_start,
+  word_start c.shared_cluster-cluster.result,
+)
 
 -- the item passed is the first that has the cluster's word
 
 pub returns-then-shares : goal.returns-then-shares
 returns-then-shares c =
-    let l = c.loop-k in
-    let test = c in
-    let shared = test in
-    let start = shared in
-    let bytes = start.args.description.now in
-    home_first _ _ start.requires.item_value.0 start.requires.behind.free shared.shared_cluster-cluster.ensures test.if-cluster-eq0.false
-    (word-found bytes l.k l.invariant.2 (cursor_item bytes l.k l.invariant.1 c.item_at-passed.ensures)
-    shared.shared_cluster-cluster.result l.invariant.3 start.args.count (item_processor start.args.item) (omega arith)
-    (sym c.shares.ensures ∙ c.if-shares.true))
+    let l = c.loop-passed in
+    let seen = with_items nothing_listed l.yielded in
+    let own = item_processor c.args.item in
+    let word = c.shared_cluster-cluster.result in
+    let next = c.in-Some.ensures.steps in
+    home_first _ _ c.requires.item_value.0 c.requires.behind c.shared_cluster-cluster.ensures c.if-cluster-eq0.false
+    (ap (λ (d : Description). place_of (has_word word) (d.processors ++ (own ∷ []))) (walk_here l.invariant.0 _ next.0 next.1)
+    ∙ word-found seen c.in-Some.passed l.invariant.1 word _ own l.invariant.2 (sym c.shares.ensures ∙ c.if-shares.true))
 
 pub row_after-earlier-requires : goal.row_after-earlier-requires
 row_after-earlier-requires c =
-    let l = c in
-    let start = l in
-    let order = rows-order start.args.description.now l.loop-k.k start.args.count (omega arith) in
-    omega (arith, l.loop-k.invariant.2, start.requires.behind.free, start.requires.item_value.1)
+    let l = c.loop-passed in
+    let seen = with_items nothing_listed l.yielded in
+    let order = rows-order seen (take l.passed-iterator.n (items_in l.passed-iterator.iter.0.now)) in
+    let all = ap (λ (d : Description). length d.processors) (walk_listed l.invariant.0) in
+    omega (arith, order, all, l.invariant.1, c.requires.behind, c.requires.item_value.1)
 
-pub overflow_add-at : goal.overflow_add-at
-overflow_add-at c =
-    let read = c in
-    let l = read.loop-k in
-    let start = read in
-    let bytes = start.args.description.now in
-    let next = cursor_step bytes l.k l.invariant.1 read.item_at-passed.ensures c.field_size-at.ensures in
-    omega (arith, start.requires.behind.within, cursor_order bytes (l.k + 1) start.args.count (omega arith))
-
-pub loop-k-preserved : goal.loop-k-preserved
-loop-k-preserved c =
-    let read = c in
-    let l = read.loop-k in
-    let shared = read in
-    let bytes = shared.args.description.now in
-    let is = cursor_item bytes l.k l.invariant.1 read.item_at-passed.ensures in (
-      omega arith,
-      cursor_step bytes l.k l.invariant.1 read.item_at-passed.ensures c.field_size-at.ensures,
-      c.row_after-earlier.ensures ∙ row_next bytes l.k l.invariant.2 is,
-      word_next bytes l.k l.invariant.2 is shared.shared_cluster-cluster.result l.invariant.3
-          (sym c.shares.ensures ∙ c.if-shares.false),
+pub loop-passed-preserved : goal.loop-passed-preserved
+loop-passed-preserved c =
+    let l = c.loop-passed in
+    let seen = with_items nothing_listed l.yielded in
+    let last = with_items-last nothing_listed l.yielded c.in-Some.passed in
+    let next = c.in-Some.ensures.steps in
+    let word = c.shared_cluster-cluster.result in (
+      walk_next l.invariant.0 _ next.0 next.1,
+      rw last (c.row_after-earlier.ensures ∙ row_next seen c.in-Some.passed l.invariant.1),
+      rw last (word_none seen c.in-Some.passed word (sym c.shares.ensures ∙ c.if-shares.false) l.invariant.2),
     )
 
 -- none before has it
 
 pub returns : goal.returns
 returns c =
-    let l = c.loop-k in
-    let shared = c in
-    let start = shared in
-    let all : l.k ≡ start.args.count = omega arith in
-    home_own _ _ start.requires.item_value.0 start.requires.behind.free shared.shared_cluster-cluster.ensures c.if-cluster-eq0.false
-    (ap (λ (n : ℕ). any_of (has_word shared.shared_cluster-cluster.result) (listed_before start.args.description.now n).processors) (sym all)
-    ∙ l.invariant.3)
+    let l = c.loop-passed in
+    let word = c.shared_cluster-cluster.result in
+    let all = walk_end l.invariant.0 (λ some. (c.in-None.ensures.steps some).0) in
+    home_own _ _ c.requires.item_value.0 c.requires.behind c.shared_cluster-cluster.ensures c.if-cluster-eq0.false
+    (ap (λ (d : Description). any_of (has_word word) d.processors) all ∙ l.invariant.2)

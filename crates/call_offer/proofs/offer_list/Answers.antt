@@ -1,4 +1,5 @@
 -- `call_offer::offer_list` meets its contract: a refused list leaves the memory, an accepted one is in force.
+use Rattle.std.proofs.Common.{rules}
 use mathlib.Core.Path.{◌≡◌, refl, sym, ap, ◌∙◌}
 use mathlib.Core.Bool.{Bool}
 use Rattle.rules.specs.AccessList.{verdict_of}
@@ -14,18 +15,15 @@ told : (c : After-judge_list) → c.judge_list.result ≡ verdict_of (board_in c
 told c =
     c.judge_list.ensures ∙ ap (λ (x : Bool). verdict_of (board_in c.args.board.now) x c.args.list.now) c.is_listed.ensures
 
-pub returns-in_default : goal.returns-in_default
+pub returns-in_err-judge_list : goal.returns-in_err-judge_list
 unfolding access_after
-returns-in_default c =
-    let a = c.args in
-    list_call_lem a.board.now a.access.now a.list.now refl (told (goal.at.returns-in_default c).After-judge_list)
-    (refused _ a.access.now a.list.now (told (goal.at.returns-in_default c).After-judge_list) c.in_default.not-Accepted)
+returns-in_err-judge_list c =
+    let is = told (goal.at.returns-in_err-judge_list c).After-judge_list in
+    list_call_lem c.args.board.now c.args.access.now c.args.list.now refl (search rules) (refused _ c.args.access.now c.args.list.now is c.in_err-judge_list.was)
 
 pub returns : goal.returns
 unfolding access_after
 returns c =
-    let judged = c in
-    let a = c.args in
-    let good = c.in-Accepted.is in
-    list_call_lem a.board.now a.access.now a.list.now refl (sym good ∙ told (goal.at.returns c).After-judge_list)
-    (c.put_in_force.ensures ∙ taken _ a.access.now a.list.now (told (goal.at.returns c).After-judge_list) good)
+    let is = told (goal.at.returns c).After-judge_list in
+    list_call_lem c.args.board.now c.args.access.now c.args.list.now refl (sym c.in_ok-judge_list.was ∙ is)
+    (c.put_in_force.ensures ∙ taken _ c.args.access.now c.args.list.now is c.in_ok-judge_list.was)

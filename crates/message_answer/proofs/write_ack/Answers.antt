@@ -20,7 +20,7 @@ returns-in-GetStatus c =
     let is = sym told.kind_in-kind.ensures ∙ told.in-GetStatus.is in
     puts_given a.answer.now _ _ _ _
     ((rw (
-      built.status_now.ensures,
+      built.item_or.ensures,
       built.record_at-state.ensures,
       built.row_in.ensures,
     ) at built.status_answer-bytes.ensures)

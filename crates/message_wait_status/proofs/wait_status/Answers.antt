@@ -1,59 +1,52 @@
 -- `message_wait_status::wait_status` meets its contract: a law for each row, and what the wait reports.
-use Prim.Native.Nat.{ℕ}
-use mathlib.Core.Path.{refl}
+use Prim.Native.Nat.{ℕ, ◌<◌, ◌≤◌}
+use mathlib.Core.Path.{◌≡◌, refl, subst}
+use mathlib.Core.Bool.{true}
+use mathlib.Core.List.{List}
+use lib.ListN.{length}
 use Rattle.rules.specs.declared.Kind.TheVariants.{WaitStatus}
 use Rattle.rules.specs.declared.Record.{Record}
 use Rattle.rules.specs.Message.{query}
 use Rattle.board.specs.Memory.{board_in}
-use Rattle.message_operation.proofs.Rows.{Reached, reached, Admitted, too_short_lem, off_board_lem, lacks_right, wrong-operands, admitted}
+use Rattle.record.specs.Memory.{memories}
+use Rattle.message_operation.proofs.Rows.{Admitted, record_seen, wrong-operands, admitted}
 use Rattle.message_operation.proofs.StatusWords.{few_words, enough_words, unwaits, waits}
-use Rattle.message_wait_status.proofs.wait_status.Goals.{Else-not-wait_good, Else-row-ge-ROWS}
-use Rattle.std.proofs.lemmas.Bool.{not_from_true, not_from_false}
+use Rattle.message_operation.proofs.Told.{Passed, passed_N7, stopped}
+use Rattle.message_wait_status.proofs.wait_status.Goals.{After-wait_good}
 use Rattle.message_wait_status.proofs.wait_status.Goals as goal
 
--- past N6
-at_N7 : (c : Else-row-ge-ROWS) (state : Record) {room : ℕ}
-    → Reached (board_in c.args.board.now) WaitStatus (query c.args.channel c.args.message.now c.args.status.now room) c.row_in-row.result state state
-at_N7 c state = reached c.if-message-lt-WAIT_STATUS_BYTES.false refl c.row_in-row.ensures c.if-row-ge-ROWS.false refl
+-- the record that the rules see
+abbrev seen : After-wait_good → List ℕ → ℕ → Record
+seen c records room =
+    record_seen (memories c.args.board.now c.args.access.now records) (query c.args.channel c.args.message.now c.args.status.now room)
 
--- past N8
-at_R3 : (c : Else-not-wait_good) (state : Record) {room : ℕ}
-    → Admitted (board_in c.args.board.now) WaitStatus (query c.args.channel c.args.message.now c.args.status.now room) c.args.access.now state
-at_R3 c state =
-    admitted (reached c.if-message-lt-WAIT_STATUS_BYTES.false refl c.row_in-row.ensures c.if-row-ge-ROWS.false refl) c.is_permitted.ensures
-    (not_from_true _ c.if-not-is_permitted.false)
-    (rw c.wait_in-w.ensures at c.wait_good.ensures)
-    (not_from_true _ c.if-not-wait_good.false)
+pub returns-in-Err : goal.returns-in-Err
+returns-in-Err c records room = unwaits (stopped WaitStatus _ _ refl (λ row. refl) c.permitted_row.ensures c.in-Err.is) c.outcome_alone.ensures
 
-pub returns-then-message-lt-WAIT_STATUS_BYTES : goal.returns-then-message-lt-WAIT_STATUS_BYTES
-returns-then-message-lt-WAIT_STATUS_BYTES c records room = unwaits (too_short_lem c.if-message-lt-WAIT_STATUS_BYTES.true) c.outcome_alone.ensures
+-- past N7
+at_N8 : (c : After-wait_good) (records : List ℕ) (room : ℕ)
+    → Passed WaitStatus (memories c.args.board.now c.args.access.now records) (query c.args.channel c.args.message.now c.args.status.now room) c.in_default.field-0
+at_N8 c records room =
+    passed_N7 WaitStatus (memories c.args.board.now c.args.access.now records) (query c.args.channel c.args.message.now c.args.status.now room) refl (λ row. refl) c.permitted_row.ensures c.in_default.is
 
-pub returns-then-row-ge-ROWS : goal.returns-then-row-ge-ROWS
-returns-then-row-ge-ROWS c records room =
-    unwaits (off_board_lem c.if-message-lt-WAIT_STATUS_BYTES.false refl c.row_in-row.ensures c.if-row-ge-ROWS.true)
-    c.outcome_alone-then-row-ge-ROWS.ensures
-
-pub returns-then-not-is_permitted : goal.returns-then-not-is_permitted
-returns-then-not-is_permitted c records room =
-    unwaits (lacks_right (at_N7 (goal.at.returns-then-not-is_permitted c).Else-row-ge-ROWS _) c.is_permitted.ensures (not_from_false _ c.if-not-is_permitted.true))
-    c.outcome_alone-then-not-is_permitted.ensures
+-- and past N8
+at_R3 : (c : After-wait_good) (records : List ℕ) (room : ℕ) → c.wait_good.result ≡ true
+    → Admitted (board_in c.args.board.now) WaitStatus (query c.args.channel c.args.message.now c.args.status.now room) c.args.access.now (seen c records room)
+at_R3 c records room good =
+    let past = at_N8 c records room in admitted past.reached refl past.right (rw c.wait_in-w.ensures at c.wait_good.ensures) good
 
 pub returns-then-not-wait_good : goal.returns-then-not-wait_good
 returns-then-not-wait_good c records room =
-    let d = c in
-    unwaits
-    (wrong-operands (at_N7 (goal.at.returns-then-not-wait_good c).Else-row-ge-ROWS _) d.is_permitted.ensures
-    (not_from_true _ d.if-not-is_permitted.false)
-    (rw d.wait_in-w.ensures at d.wait_good.ensures)
-    (not_from_false _ d.if-not-wait_good.true))
+    let past = at_N8 (goal.at.returns-then-not-wait_good c).After-wait_good records room in
+    unwaits (wrong-operands past.reached refl past.right (rw c.wait_in-w.ensures at c.wait_good.ensures) c.if-not-wait_good.true)
     c.outcome_alone-then-not-wait_good.ensures
 
-pub returns-then-status-w : goal.returns-then-status-w
-returns-then-status-w c records room =
-    let w = c.wait_in-w.ensures in
-    unwaits (few_words (at_R3 (goal.at.returns-then-status-w c).Else-not-wait_good _) w c.if-status-w.true) c.outcome_alone-then-status-w.ensures
+pub returns-then-status-from : goal.returns-then-status-from
+returns-then-status-from c records room =
+    let past = at_R3 (goal.at.returns-then-status-from c).After-wait_good records room c.if-not-wait_good.false in
+    unwaits (few_words past c.wait_in-w.ensures (subst (λ (n : ℕ). length c.args.status.now < n) c.from.ensures c.if-status-from.true)) c.outcome_alone-then-status-from.ensures
 
 pub returns : goal.returns
 returns c records room =
-    let w = c.wait_in-w.ensures in
-    waits w (enough_words (at_R3 (goal.at.returns c).Else-not-wait_good _) w c.if-status-w.false) c.waited.ensures
+    let past = at_R3 (goal.at.returns c).After-wait_good records room c.if-not-wait_good.false in
+    waits c.wait_in-w.ensures (enough_words past c.wait_in-w.ensures (subst (λ (n : ℕ). n ≤ length c.args.status.now) c.from.ensures c.if-status-from.false)) c.waited.ensures

@@ -18,10 +18,6 @@ returns-then-out-lt-LINE_BYTES c =
 
 pub returns : goal.returns
 returns c =
-    let line = c in
-    let found = line in
-    let bound = found in
-    let tested = bound in
-    let a = tested.args in
+    let a = c.args in
     let size : length a.carry.now ≡ carry_size = search rules in
-    end_line_lem a.carry.now a.out.now a.held tested.if-over.false _ _ _ _ size bound.fewer-kept.ensures tested.if-out-lt-LINE_BYTES.false found.find.ensures line.last_line-used.ensures.value line.last_line-used.ensures.out_after
+    end_line_lem a.carry.now a.out.now a.held c.if-over.false _ _ _ _ size c.min-kept.ensures c.if-out-lt-LINE_BYTES.false c.find.ensures c.last_line-used.ensures.value c.last_line-used.ensures.out_after

@@ -5,10 +5,8 @@ use Rattle.recording_feed.proofs.skip.Goals as goal
 pub returns-then-carried : goal.returns-then-carried
 returns-then-carried c =
     let told = c.move_down-left in
-    let tested = c in
-    let start = tested in
-    let a = start.args in
-    carry_passed a.carry.now _ a.held a.at a.end _ tested.if-carried.true start.requires told.ensures.value told.ensures.buffer_after
+    let a = c.args in
+    carry_passed a.carry.now _ a.held a.at a.end _ c.if-carried.true c.requires told.ensures.value told.ensures.buffer_after
 
 pub returns : goal.returns
 returns c = let a = c.args in piece_passed a.carry.now a.held a.at a.end c.if-carried.false

@@ -6,16 +6,14 @@ use Rattle.access.proofs.InForce.{none_stored, put_next, entries-all}
 use Rattle.access.proofs.store.put_in_force.Goals as goal
 
 pub loop-e-init : goal.loop-e-init
-loop-e-init c = (omega arith, none_stored _ _)
+loop-e-init c = none_stored _ _
 
 pub loop-e-preserved : goal.loop-e-preserved
 loop-e-preserved c =
-    let turn = c in (
-      omega arith,
-      c.store_entry.ensures ∙ rw turn.loop-e.invariant.1 (put_next _ _ turn.loop-e.e),
-    )
+    let turn = c in
+    c.store_entry.ensures ∙ rw turn.loop-e.invariant (put_next _ _ turn.loop-e.e)
 
 pub returns : goal.returns
 returns c =
     let all : c.loop-e.e ≡ entry_count = omega arith in
-    c.loop-e.invariant.1 ∙ rw all (entries-all _ _)
+    c.loop-e.invariant ∙ rw all (entries-all _ _)

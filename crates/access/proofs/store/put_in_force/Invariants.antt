@@ -1,14 +1,9 @@
-use Prim.Native.Nat.{◌≤◌, ◌-◌}
 use mathlib.Core.Path.{◌≡◌}
 use mathlib.Core.List.{◌∷◌}
-use Rattle.rules.specs.Substructure.{entry_count}
 use Rattle.board.specs.Memory.{board_in}
 use Rattle.access.specs.InForce.{entry_words}
 use Rattle.access.proofs.InForce.{entries_before}
 use Rattle.access.proofs.store.put_in_force.Given as goal
 
 abbrev pub invariant-loop-e : goal.invariant-loop-e
-invariant-loop-e l = (l.e ≤ entry_count) × (l.access ≡ 1 ∷ entry_words (entries_before (board_in l.board) l.list l.e))
-
-abbrev pub decreases-loop-e : goal.decreases-loop-e
-decreases-loop-e l = entry_count - l.e
+invariant-loop-e l = l.access ≡ 1 ∷ entry_words (entries_before (board_in l.board) l.list l.e)

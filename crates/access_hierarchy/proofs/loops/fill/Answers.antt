@@ -11,29 +11,18 @@ use Rattle.access_hierarchy.proofs.loops.fill.Goals as goal
 
 pub loop-e-init : goal.loop-e-init
 unfolding parts_of
-loop-e-init c =
-    (omega arith, c.requires ∙ none_filled)
+loop-e-init c = c.requires ∙ none_filled
 
 pub loop-e-preserved-then-host-ne0 : goal.loop-e-preserved-then-host-ne0
 loop-e-preserved-then-host-ne0 c =
-    let given = c.args in
-    let at = c.loop-e in
-    let e = at.e - 1 in (
-      omega arith,
-      ap (λ (table : List ℕ). set table c.byte_at-host.result c.byte_at.result) at.invariant.1
-          ∙ fill_used given.bytes.now e at.e (omega arith) (omega arith) c.byte_at-host.ensures c.if-host-ne0.true c.byte_at.ensures,
-    )
+    ap (λ (table : List ℕ). set table c.byte_at-host.result c.byte_at.result) c.loop-e.invariant
+    ∙ fill_used c.args.bytes.now (c.loop-e.e - 1) c.loop-e.e (omega arith) (omega arith) c.byte_at-host.ensures c.if-host-ne0.true c.byte_at.ensures
 
 pub loop-e-preserved : goal.loop-e-preserved
 loop-e-preserved c =
-    let given = c.args in
-    let at = c.loop-e in
-    let e = at.e - 1 in (
-      omega arith,
-      at.invariant.1 ∙ fill_unused given.bytes.now e at.e (omega arith) (omega arith) c.byte_at-host.ensures c.if-host-ne0.false,
-    )
+    c.loop-e.invariant ∙ fill_unused c.args.bytes.now (c.loop-e.e - 1) c.loop-e.e (omega arith) (omega arith) c.byte_at-host.ensures c.if-host-ne0.false
 
 pub returns : goal.returns
 unfolding supervisors_in
 returns c =
-    let none : c.loop-e.e ≡ 0 = omega arith in c.loop-e.invariant.1 ∙ rw none
+    let none : c.loop-e.e ≡ 0 = omega arith in c.loop-e.invariant ∙ rw none

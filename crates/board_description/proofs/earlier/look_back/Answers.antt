@@ -1,35 +1,28 @@
--- `board_description::look_back` meets its contract. The loop's invariant: the cursor is at item k, and what was noted is what the items before
--- it say.
-use Prim.Native.Nat.{◌+◌, ◌≤◌}
-use mathlib.Core.Path.{refl, subst⁻¹, ◌∙◌}
-use native.Mathlib.Omega.{arith}
-use Rattle.board_description.specs.Cursor.{cursor_at}
-use Rattle.board_description.proofs.Cursors.{cursor_order, cursor_item, cursor_step}
-use Rattle.board_description.specs.declared.earlier.Before.{Before}
-use Rattle.board_description.proofs.EarlierItems.{walk_start, walk_next, noted-few}
+-- `board_description::look_back` meets its contract. The loop's invariant: what was noted is what the items seen say.
+use Rattle.std.proofs.Common.{arith, ◌∙◌, ap, sym, [], ◌∷◌}
+use lib.ListN.{length-append}
+use Rattle.rules.specs.Description.{Description}
+use Rattle.board_description.specs.EarlierItems.{before_in}
+use Rattle.board_description.proofs.Listed.{walk_start, walk_next, walk_end}
+use Rattle.board_description.proofs.EarlierItems.{note_start, note_next, noted-few}
 use Rattle.board_description.proofs.earlier.look_back.Goals as goal
 
-pub loop-k-init : goal.loop-k-init
-unfolding cursor_at
-loop-k-init c = (omega arith, omega arith, refl, walk_start c.args.description.now c.args.item)
+pub loop-earlier-init : goal.loop-earlier-init
+loop-earlier-init c =
+    (rw (c.into_iter-earlier-iterator.ensures.into_iter_gives, c.take-earlier-items.ensures.source, c.take-earlier-items.ensures.count) (walk_start _ _), omega arith, note_start c.args.item)
 
-pub overflow_add-at : goal.overflow_add-at
-overflow_add-at c =
-    let start = c in
-    let l = c.loop-k in
-    let bytes = start.args.description.now in
-    let next = cursor_step bytes l.k l.invariant.2 c.item_at-earlier.ensures c.field_size-at.ensures in
-    omega (arith, start.requires, cursor_order bytes (l.k + 1) start.args.count (omega arith))
-
-pub loop-k-preserved : goal.loop-k-preserved
-loop-k-preserved c =
-    let a = c.args in
-    let l = c.loop-k in
-    let bytes = a.description.now in
-    let read = c.item_at-earlier in (
-      omega arith,
-      subst⁻¹ (λ (b : Before). b.same ≤ l.k + 1) c.note-before.ensures
-          (omega (arith, noted-few a.item read.result l.before, l.invariant.1)),
-      cursor_step bytes l.k l.invariant.2 read.ensures c.field_size-at.ensures,
-      c.note-before.ensures ∙ walk_next bytes a.item l.k l.invariant.3 (cursor_item bytes l.k l.invariant.2 read.ensures),
+pub loop-earlier-preserved : goal.loop-earlier-preserved
+loop-earlier-preserved c =
+    let l = c.loop-earlier in
+    let few = noted-few c.args.item c.in-Some.earlier l.before in
+    let more = length-append l.yielded (c.in-Some.earlier ∷ []) in (
+      walk_next l.invariant.0 _ c.in-Some.ensures.steps.0 c.in-Some.ensures.steps.1,
+      rw c.note-before.ensures (omega (arith, few, l.invariant.1, more)),
+      c.note-before.ensures ∙ note_next c.args.item l.yielded c.in-Some.earlier l.invariant.2,
     )
+
+pub returns : goal.returns
+returns c =
+    let l = c.loop-earlier in
+    l.invariant.2
+    ∙ ap (λ (d : Description). before_in d c.args.item) (sym (walk_end l.invariant.0 (λ some. (c.in-None.ensures.steps some).0)))

@@ -1,15 +1,13 @@
-use Prim.Native.Nat.{◌-◌, ◌≤◌}
 use mathlib.Core.Path.{◌≡◌}
-use Rattle.board_description.specs.Cursor.{cursor_at, listed_before}
+use Prim.Native.Nat.{◌≤◌}
+use lib.ListN.{length}
+use Rattle.rules.specs.Description.{nothing_listed, items_in, with_items}
 use Rattle.board_description.specs.EarlierItems.{before_in}
+use Rattle.board_description.proofs.Listed.{Walked}
 use Rattle.board_description.proofs.earlier.look_back.Given as goal
 
-abbrev pub invariant-loop-k : goal.invariant-loop-k
-invariant-loop-k l =
-    (l.k ≤ l.count)
-    × (l.before.same ≤ l.k)
-    × (l.at ≡ cursor_at l.description l.k)
-    × (l.before ≡ before_in (listed_before l.description l.k) l.item)
-
-abbrev pub decreases-loop-k : goal.decreases-loop-k
-decreases-loop-k l = l.count - l.k
+abbrev pub invariant-loop-earlier : goal.invariant-loop-earlier
+invariant-loop-earlier l =
+    Walked l.description l.count l.yielded (items_in l.earlier-iterator.iter.0.now) l.earlier-iterator.n
+    × (l.before.same ≤ length l.yielded)
+    × (l.before ≡ before_in (with_items nothing_listed l.yielded) l.item)

@@ -7,11 +7,11 @@ use Rattle.recording_feed.proofs.cursor.seen.Goals as goal
 pub overflow_add-start : goal.overflow_add-start
 overflow_add-start c =
     let a = c.args in
-    let ends = whole-ends a.bytes.now a.at _ _ (sym c.in-Whole.is ∙ c.find-found.ensures) in
+    let ends = whole-ends a.bytes.now a.at _ _ (sym c.in-Whole.is ∙ c.find.ensures) in
     omega (arith, ends)
 
 pub overflow_add-result : goal.overflow_add-result
 overflow_add-result c =
     let a = c.args in
-    let ends = whole-ends a.bytes.now a.at _ _ (sym c.in-Whole.is ∙ c.find-found.ensures) in
+    let ends = whole-ends a.bytes.now a.at _ _ (sym c.in-Whole.is ∙ c.find.ensures) in
     omega (arith, ends)

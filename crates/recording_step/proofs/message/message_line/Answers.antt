@@ -1,6 +1,8 @@
 -- `recording_step::message_line` meets its contract: the message call with a buffer of zeros, and its line.
-use mathlib.Core.Path.{sym}
+use mathlib.Core.Path.{◌≡◌, sym}
 use native.Mathlib.Omega.{arith}
+use Rattle.std.proofs.lemmas.Grind.{common_steps}
+use lib.ListN.{drop}
 use lib.Seq.{length-take-le}
 use Rattle.record.specs.Memory.{memories}
 use Rattle.recording_step.proofs.Calls.{written_few, message_played}
@@ -19,11 +21,9 @@ slice_bounds-print_message-end c =
 
 pub returns : goal.returns
 returns c =
-    let at-message = c in
-    let at-byte-at = at-message in
-    let at-after-first = at-byte-at in
-    let start = at-after-first in
-    let a = start.args in
-    let call = rw (at-byte-at.byte_at-channel.ensures, at-after-first.after_first-sent.ensures) at at-message.message-told.ensures in
-    message_played (memories a.board.now a.access.now a.records.now) a.line.now _ _ start.requires a.body.now a.status.now _ _
-    at-message.message-told.result call c.print_message.ensures
+    let a = c.args in
+    let told = c.message-told in
+    let sent : c.unwrap_or-sent.result.now ≡ drop 1 a.body.now = grind (arith, common_steps) in
+    let call = rw (c.byte_at-channel.ensures, sent) at told.ensures in
+    message_played (memories a.board.now a.access.now a.records.now) a.line.now _ _ c.requires a.body.now a.status.now _ _ told.result call
+    c.print_message.ensures

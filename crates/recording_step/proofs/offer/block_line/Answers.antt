@@ -8,5 +8,5 @@ returns c = λ records.
     let call = c in
     let start = call in
     let a = start.args in
-    block_played (memories a.board.now a.access.now records) a.line.now _ _ start.requires a.body.now _ call.offer_block-report.result
-    call.offer_block-report.ensures c.print_block.ensures
+    block_played (memories a.board.now a.access.now records) a.line.now _ _ start.requires a.body.now _ _
+    call.offer_block-verdict.ensures c.print_block.ensures
