@@ -1,5 +1,5 @@
-// The line that a message prints, laid over the start of a lent buffer. The rules are specs/Lines.antt.
-// Text is laid piece by piece: each piece from a place on, giving the place behind it.
+// The line that a message prints, laid over the start of a lent buffer. The rule is `message_line` of
+// rules/specs/Recording.antt. Text is laid piece by piece: each from a place on, giving the place behind it.
 ghost use Rattle.std.specs.Prelude.{◌++◌, ◌∷◌, [], ◌≡◌, ◌&&◌, leb, ◌+◌, ◌*◌, ◌≤◌, ◌<◌, length};
 ghost use Rattle.rules.specs.Outcome.{outcome_number};
 ghost use Rattle.rules.specs.Message.{largest_answer};

@@ -3,7 +3,6 @@
 #![tactic(auto)]
 
 mod message;
-mod offer;
 
 ghost use Rattle.std.specs.Prelude.{◌≡◌, false, List, ℕ, ◌≤◌, length, eqb};
 ghost use Rattle.rules.specs.Recording.{message_tag, status_tag, field_of};
@@ -12,14 +11,20 @@ ghost use Rattle.recording_step.specs.SessionMemory.{session_memories, memories_
 ghost use Rattle.recording_step.specs.Fields.{FieldPlayed};
 
 use crate::message::message_line;
-use crate::offer::{block_line, board_line, list_line};
 use access::AccessMemory;
 use board::BoardMemory;
+use call_offer::{offer_block, offer_board, offer_list};
 use record::RecordMemory;
 use recording_fields::{
     StatusWords, TAG_BLOCK, TAG_BOARD, TAG_LIST, TAG_MESSAGE, TAG_STATUS, take_words,
 };
+use recording_lines::{print_block, print_board, print_list};
 use recording_texts::LINE_BYTES;
+
+// The ABI bytes that a recorded block must have.
+const ABI_MAJOR: u8 = 0;
+
+const ABI_MINOR: u8 = 1;
 
 // What a session keeps: board, access list, records and status words, in memory that the caller lends; and how
 // many of the words stand.
@@ -49,13 +54,13 @@ fn play_offer(
         (session_memories board.new access.new records words stand) line.new result }
 {
     if tag == TAG_LIST {
-        return list_line(board, access, body, line);
+        return print_list(line, offer_list(board, access, body));
     }
     if tag == TAG_BLOCK {
-        return block_line(board, access, body, line);
+        return print_block(line, offer_block(board, access, ABI_MAJOR, ABI_MINOR, body));
     }
     if tag == TAG_BOARD {
-        return board_line(board, access, body, line);
+        return print_board(line, offer_board(board, access, body));
     }
     0
 }
