@@ -1,28 +1,17 @@
 -- One more check of a wait, over plain numbers: how the run goes on, and what the search for its end comes to.
 use Prim.Native.Nat.{ℕ, zero, suc, ◌+◌, ◌≤◌, ◌<◌, ◌-◌, min}
-use mathlib.Core.Path.{◌≡◌, sym, ap, ◌∙◌, subst}
+use mathlib.Core.Path.{◌≡◌, ◌∙◌, subst}
 use mathlib.Core.Bool.{Bool, cond}
-use mathlib.Core.List.{List, ◌∷◌}
+use mathlib.Core.List.{List}
 use mathlib.Core.Logic.{⊎_elim}
 use native.Mathlib.Omega.{arith}
-use lib.ListN.{length, get_or, drop, length-drop}
-use lib.Seq.{drop-cons}
+use lib.ListN.{length, get_or}
 use borrow.Author.Tests.{le-leb, lt-leb}
 use Rattle.rules.specs.declared.Wait.{Wait}
 use Rattle.rules.specs.Wait.{word_matches, run_after, ends_run, first_end, ending_check}
 use Rattle.rules.proofs.Tests.{decide, cond-true, cond-false}
 
 module _ (w : Wait) (words : List ℕ) where
-  -- the word that comes is that at the place, and those behind it are left
-  pub word_at : (rest more : List ℕ) (k word : ℕ) → rest ≡ drop k words → rest ≡ word ∷ more
-      → (k < length words) × (word ≡ get_or words k 0) × (more ≡ drop (suc k) words)
-  word_at rest more k word from is =
-      let within : k < length words = omega (arith, ap length (sym from ∙ is), length-drop k words) in
-      let cut = drop-cons words k 0 within in
-      let here : word ≡ get_or words k 0 = cc in
-      let behind : more ≡ drop (suc k) words = cc in
-      (within, here, behind)
-
   -- the run after one more check
   pub run_step : (k run r : ℕ) (matching : Bool) → matching ≡ word_matches w (get_or words k 0) → run ≡ run_after w words k
       → r ≡ cond matching (suc run) 0 → r ≡ run_after w words (suc k)

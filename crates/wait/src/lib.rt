@@ -83,10 +83,10 @@ fn run_after(matching: bool, run: usize) -> usize
 pub fn ending_check(w: Wait, status: &[u32]) -> usize
     ensures { result ≡ ending_check w status.now }
 {
-    let waits = usize::from(w.waits);
     let matches = usize::from(w.matches);
+    let checked = &status[..usize::from(w.waits).min(status.len())];
     let mut run = 0;
-    for (i, word) in status.iter().take(waits).enumerate() {
+    for (i, word) in checked.iter().enumerate() {
         run = run_after(word_matches(w, *word), run);
         if matches <= run {
             return i + 1;
