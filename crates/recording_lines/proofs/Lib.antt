@@ -1,3 +1,5 @@
 -- What the proofs of this crate share.
 pub mod Digits
 pub mod Laid
+pub mod OfferLines
+pub mod Offers

@@ -1,8 +1,8 @@
 // The texts of offers that a session prints: the line of a list, of a block and of a board description. The
 // rules are specs/Offers.antt. Any buffer is taken.
-ghost use Rattle.std.specs.Prelude.{◌+◌, ◌≤◌, length};
+ghost use Rattle.std.specs.Prelude.{◌++◌, ◌≡◌, ◌+◌, ◌≤◌, length};
 ghost use Rattle.recording_texts.specs.Names.{text_size};
-ghost use Rattle.recording_texts.specs.Texts.{line_size};
+ghost use Rattle.recording_texts.specs.Texts.{line_size, laid};
 ghost use Rattle.rules.specs.Recording.{list_word, block_word, board_word};
 ghost use Rattle.recording_lines.specs.Offers.{PrintedOffer};
 
@@ -10,8 +10,20 @@ use crate::message::append;
 use recording_texts::{LINE_BYTES, verdict_text};
 use rules::Verdict;
 
+// Lays a word over the start of the line, and a text behind it. Gives the place behind them.
+#[inline(always)]
+fn append_both(line: &mut [u8], word: &[u8], text: &[u8]) -> usize
+    requires { length word.now + length text.now ≤ length line.old }
+    ensures value { result ≡ length (word.now ++ text.now) }
+    ensures line_after { line.new ≡ laid line.old 0 (word.now ++ text.now) }
+{
+    let after_word = append(line, 0, word);
+    append(line, after_word, text)
+}
+
 // The line of an offer, which begins with `word`. Gives its length: 0 where there is no room, and nothing is
-// written.
+// written. A text of three or four bytes, as all have but the loop's, is laid without a call of `memcpy`.
+#[inline(always)]
 fn print_offer(line: &mut [u8], word: &[u8], verdict: Verdict) -> usize
     requires { length word.now + text_size ≤ line_size }
     ensures { PrintedOffer line.old word.now verdict line.new result }
@@ -20,8 +32,14 @@ fn print_offer(line: &mut [u8], word: &[u8], verdict: Verdict) -> usize
         return 0;
     }
     let text = verdict_text(verdict);
-    let after_word = append(line, 0, word);
-    append(line, after_word, &text.bytes[..text.count])
+    match text.count {
+        3 => append_both(line, word, &text.bytes[..3]),
+        4 => append_both(line, word, &text.bytes[..4]),
+        count => {
+            let bytes = text.bytes;
+            append_both(line, word, &bytes[..count])
+        }
+    }
 }
 
 // The line of a list. Gives its length: 0 where there is no room, and nothing is written.

@@ -60,6 +60,7 @@ fn loop_text(host: u8) -> Text
 }
 
 // Any verdict. B10 is the one name of three characters.
+#[inline(always)]
 pub fn verdict_text(verdict: Verdict) -> Text
     ensures bytes_value { result.bytes ≡ padded (verdict_line (verdict_number verdict) (reported_host verdict)) }
     ensures count_value { result.count ≡ length (verdict_line (verdict_number verdict) (reported_host verdict)) }
