@@ -2,7 +2,9 @@
 use Prim.Native.Nat.{ℕ}
 use mathlib.Core.Path.{ap, ◌∙◌}
 use borrow.Author.Tests.{ne_eqb}
-use Rattle.rules.specs.Recording.{list_tag, block_tag, board_tag, field_of, list_call, block_call, board_call, carry_out}
+use borrow.Author.Rules.{rules}
+use Rattle.recording_lines.specs.Offers.{PrintedOffer}
+use Rattle.rules.specs.Recording.{block_word, list_tag, block_tag, board_tag, field_of, list_call, block_call, board_call, carry_out}
 use Rattle.record.specs.Memory.{memories}
 use Rattle.recording_step.specs.SessionMemory.{session_memories, session_in}
 use Rattle.recording_step.proofs.Calls.{list_played, block_played, board_played}
@@ -25,7 +27,10 @@ returns-then-tag-eq-TAG_BLOCK c = λ records words stand.
     let s = session_in (session_memories a.board.now a.access.now records words stand) in
     from_call a.board.now a.access.now records words a.line.now stand (field_of a.tag a.body.now) c.requires.line_size_in_bounds _ _ _ _ _ (block_call a.body.now)
     (ap (λ (t : ℕ). carry_out s (field_of t a.body.now)) c.if-tag-eq-TAG_BLOCK.true ∙ carry_block s a.body.now)
-    (block_played m a.line.now _ _ c.requires.line_size_in_bounds a.body.now _ _ c.offer_block.ensures c.print_block.ensures)
+    (
+    let shown : PrintedOffer a.line.now block_word c.offer_block.result c.print_block.new.line c.print_block.result = search rules in
+    block_played m a.line.now _ _ c.requires.line_size_in_bounds a.body.now _ _ c.offer_block.ensures shown
+    )
 
 pub returns-then-tag-eq-TAG_BOARD : goal.returns-then-tag-eq-TAG_BOARD
 returns-then-tag-eq-TAG_BOARD c = λ records words stand.
