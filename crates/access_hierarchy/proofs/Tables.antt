@@ -150,7 +150,7 @@ module _ (bytes : List ℕ) where
   abbrev pub hosts : List ℕ
   hosts = map host_at (range_with_len 0 entry_count)
 
-  abbrev first_from : ℕ → ℕ
+  abbrev pub first_from : ℕ → ℕ
   first_from e = first_host (on_loop (pairs bytes)) (parts_from pair_size bytes e (entry_count - e))
 
   from_host : (e : ℕ) → e < entry_count → first_from e ≡ cond (on_loop (pairs bytes) (host_at e)) (host_at e) (first_from (suc e))
@@ -160,6 +160,15 @@ module _ (bytes : List ℕ) where
       ap (first_host (on_loop (pairs bytes))) (parts_next pair_size bytes e h)
       ∙ ap (λ (x : ℕ). cond (on_loop (pairs bytes) x) x (first_from (e + 1))) named
       ∙ ap (λ (n : ℕ). cond (on_loop (pairs bytes) (host_at e)) (host_at e) (first_from n)) (add-one e)
+
+  -- a host that has been read: it is the first where it lies on a loop, else the next decides
+  module _ (e : ℕ) {host : ℕ} (h : e < entry_count) (at : host ≡ host_at e) where
+    pub host_found : on_loop (pairs bytes) host ≡ true → first_from e ≡ host
+    host_found on = from_host e h ∙ cond-true _ _ (ap (on_loop (pairs bytes)) (sym at) ∙ on) ∙ sym at
+
+    pub host_passed : on_loop (pairs bytes) host ≡ false → first_from e ≡ first_from (e + 1)
+    host_passed off =
+        from_host e h ∙ cond-false _ _ (ap (on_loop (pairs bytes)) (sym at) ∙ off) ∙ ap first_from (sym (add-one e))
 
   -- where none of those before entry e lies on a loop
   passed : (e : ℕ) → e ≤ entry_count → ((k : ℕ) → k < e → on_loop (pairs bytes) (host_at k) ≡ false) → loop_host (pairs bytes) ≡ first_from e

@@ -1,9 +1,9 @@
 -- Laws of a substructure: its magic and size, the numbers that the entries before one have, of any width, and what is left to decide after one.
-use Prim.Native.Nat.{ℕ, zero, suc, ◌+◌, ◌*◌, ◌-◌, ◌<◌}
+use Prim.Native.Nat.{ℕ, zero, suc, ◌+◌, ◌*◌, ◌-◌, ◌<◌, ◌≤◌}
 use native.Mathlib.Numerals.{add-one}
 use native.Mathlib.Omega.{arith}
 use mathlib.Core.Path.{◌≡◌, refl, sym, subst, ap, ap₂, ◌∙◌}
-use native.Mathlib.Nat.{zero-add, not-suc-le-zero}
+use native.Mathlib.Nat.{zero-add, not-suc-le-zero, mul-le-mul}
 use Rattle.std.specs.Bool.{MatchBool}
 use Rattle.std.specs.List.{range_with_len, AllWithin, HoldsAt}
 use Rattle.std.proofs.lemmas.List.FromFn.{length-range_with_len, get_or-range_with_len}
@@ -19,17 +19,30 @@ use Rattle.rules.specs.Table.{Line, ◌gives◌, first_of, any_of}
 use Rattle.rules.specs.Bytes.{byte_at}
 use Rattle.rules.specs.Verdict.{Verdict, Accepted, accepted}
 use Rattle.rules.specs.Substructure.{head_size, entry_count, magic_in, size_in, part_at, parts_of, parts_from, number_in, used, names, named_in, in_turn}
-use Rattle.rules.proofs.Tests.{decide, clash, first_of-append, none_good, none_falls, none_stops}
+use Rattle.rules.proofs.Tests.{decide, clash, cond-true, first_of-append, skipped, none_good, none_falls, none_stops}
 use Rattle.rules.proofs.Parts.{number_at, parts_next}
 use Rattle.access_list.specs.Entries.{parts_before, number_before}
 
--- ---- A3 and A4, B3 and B4, B9 and B10: a good magic and a good size leave the lines that follow
+-- ---- A3 and A4, B3 and B4, B9 and B10: the magic m and the size s, before the lines that follow
 
-pub past_head : (m : ℕ) (bad : Verdict) (s : ℕ) (small : Verdict) (bytes : List ℕ) (rest : List (Line Verdict)) {magic size : ℕ}
-    → magic ≡ magic_in bytes → magic ≡ m → size ≡ size_in bytes → size ≡ s
-    → first_of Accepted ((not (eqb (magic_in bytes) m) gives bad) ∷ (not (eqb (size_in bytes) s) gives small) ∷ rest) ≡ first_of Accepted rest
-unfolding first_of
-past_head m bad s small bytes rest first good second right = rw (eq-eqb (magic_in bytes) m (sym first ∙ good), eq-eqb (size_in bytes) s (sym second ∙ right))
+abbrev headed : ℕ → Verdict → ℕ → Verdict → List ℕ → List (Line Verdict) → Verdict
+headed m bad s small bytes rest = first_of Accepted ((not (eqb (magic_in bytes) m) gives bad) ∷ (not (eqb (size_in bytes) s) gives small) ∷ rest)
+
+module _ (m : ℕ) (bad : Verdict) (s : ℕ) (small : Verdict) (bytes : List ℕ) (rest : List (Line Verdict)) {magic : ℕ} (first : magic ≡ magic_in bytes) where
+  pub bad_magic_lem : (magic ≡ m → ⊥) → headed m bad s small bytes rest ≡ bad
+  unfolding first_of
+  bad_magic_lem other = cond-true bad _ (ap not (ne_eqb (magic_in bytes) m (λ e. other (first ∙ e))))
+
+  module _ {size : ℕ} (good : magic ≡ m) (second : size ≡ size_in bytes) where
+    past_magic : headed m bad s small bytes rest ≡ first_of Accepted ((not (eqb (size_in bytes) s) gives small) ∷ rest)
+    past_magic = skipped Accepted bad _ (ap not (eq-eqb (magic_in bytes) m (sym first ∙ good)))
+
+    pub bad_size_lem : (size ≡ s → ⊥) → headed m bad s small bytes rest ≡ small
+    unfolding first_of
+    bad_size_lem other = past_magic ∙ cond-true small _ (ap not (ne_eqb (size_in bytes) s (λ e. other (second ∙ e))))
+
+    pub past_head : size ≡ s → headed m bad s small bytes rest ≡ first_of Accepted rest
+    past_head right = past_magic ∙ skipped Accepted small _ (ap not (eq-eqb (size_in bytes) s (sym second ∙ right)))
 
 -- ---- lines that have been judged, before others
 
@@ -80,6 +93,18 @@ module _ (width : ℕ) (bytes : List ℕ) (n : ℕ) where
       (λ k below is.
       none k 0 (omega arith) (omega (arith, below, length-range_with_len 0 e)) (subst Numbered (sym (get_or-range_with_len 0 e k 0 below ∙ zero-add k)) is)))
 
+-- the newest of the entries before i, where j is one less, and its first byte has been read
+module _ (width : ℕ) (bytes : List ℕ) (i j n : ℕ) {x : ℕ} (next : i ≡ suc j) (at : x ≡ byte_at bytes (head_size + width * j)) where
+  newest : number_before width bytes i n ≡ (eqb x n || number_before width bytes j n)
+  unfolding number_before
+  newest = ap (λ (m : ℕ). number_before width bytes m n) next ∙ ap (λ (y : ℕ). eqb y n || number_before width bytes j n) (sym at)
+
+  pub number_here : x ≡ n → number_before width bytes i n ≡ true
+  number_here is = newest ∙ rw (eq-eqb x n is)
+
+  pub number_passed : (x ≡ n → ⊥) → number_before width bytes i n ≡ number_before width bytes j n
+  number_passed other = newest ∙ rw (ne_eqb x n other)
+
 -- an entry that has a number but 0 is used
 used-names : (part : List ℕ) (n : ℕ) → (n ≡ 0 → ⊥) → names n part ≡ eqb (number_in part) n
 used-names part n some =
@@ -97,6 +122,10 @@ number_named width bytes (suc e) n wide some =
     ap₂ ◌||◌
     (ap (λ (x : ℕ). eqb x n) (sym (number_at width bytes e wide)) ∙ sym (used-names (part_at width bytes e) n some))
     (number_named width bytes e n wide some)
+
+-- the place of a number is small
+pub place_small : (width i : ℕ) → width ≤ 255 → i ≤ 255 → width * i ≤ 65025
+place_small width i low high = mul-le-mul low high
 
 -- ---- the entries in turn
 

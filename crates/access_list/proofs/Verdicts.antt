@@ -1,18 +1,18 @@
--- Laws of the judge of a list: what the code asks of a secondary, what one entry comes to, and what is left after it.
-use Prim.Native.Nat.{ℕ, zero, suc, ◌+◌, ◌*◌, ◌<◌}
+-- Laws of the judge of a list: what the code's tests say of a processor and of a host, what one entry comes to, and what is left after it.
+use Prim.Native.Nat.{ℕ, zero, suc, ◌+◌, ◌*◌, ◌<◌, ◌≤◌}
 use native.Mathlib.Omega.{arith}
-use mathlib.Core.Path.{◌≡◌, refl, sym, ap, ◌∙◌}
+use mathlib.Core.Path.{◌≡◌, refl, sym, ap, subst, ◌∙◌}
 use mathlib.Core.Bool.{Bool, true, false, cond, not, ◌||◌}
 use mathlib.Core.List.{List}
 use lib.ListN.{length, drop}
-use borrow.Author.Tests.{eq-eqb, ne_eqb}
+use borrow.Author.Tests.{le-ltb, lt-ltb, eq-eqb, ne_eqb}
 use Rattle.std.specs.Prelude.{Err}
 use Rattle.rules.specs.declared.Fault.{Fault}
 use Rattle.rules.specs.declared.Fault.TheVariants.{A1, A2, A5, A6, A7, A8}
 use Rattle.rules.specs.Table.{first_of, any_of}
 use Rattle.rules.specs.Bytes.{u16_at}
 use Rattle.rules.specs.Verdict.{Verdict, Accepted, accepted}
-use Rattle.rules.specs.Board.{Board, board_host, active_host, on_board}
+use Rattle.rules.specs.Board.{Board, board_host, active_host, rows, row_of, on_board}
 use Rattle.rules.specs.Substructure.{entry_count, part_at, named_in}
 use Rattle.rules.specs.AccessList.{list_size, entry_size, processor_in, master_in, secondaries_in, bad_secondary, entry_table, content_table, list_table, verdict_of}
 use Rattle.rules.proofs.Tests.{skipped}
@@ -25,7 +25,18 @@ unfolding verdict_of list_table
 past_length b listed list first size = skipped Accepted (Err A1) _ first ∙ skipped Accepted (Err A2) _ (ap not (eq-eqb (length list) list_size size))
 
 module _ (b : Board) where
-  -- what the code's test says of a host s, read as h
+  -- ---- what the code's tests say
+
+  -- of a processor p, read as q
+  pub off_board_lem : {p q row : ℕ} → row ≡ row_of b q → q ≡ p → rows ≤ row → on_board b p ≡ false
+  unfolding on_board
+  off_board_lem {p} at same h = le-ltb (row_of b p) rows (subst (λ (r : ℕ). rows ≤ r) (at ∙ ap (row_of b) same) h)
+
+  pub on_board_lem : {p q row : ℕ} → row ≡ row_of b q → q ≡ p → row < rows → on_board b p ≡ true
+  unfolding on_board
+  on_board_lem {p} at same h = lt-ltb (row_of b p) rows (subst (λ (r : ℕ). r < rows) (at ∙ ap (row_of b) same) h)
+
+  -- of a host s, read as h
   pub host_test : (test : Board → ℕ → Bool) {h s : ℕ} {r t : Bool} → r ≡ test b h → h ≡ s → not r ≡ t → not (test b s) ≡ t
   host_test test is same told = ap not (sym (ap (test b) same) ∙ sym is) ∙ told
 

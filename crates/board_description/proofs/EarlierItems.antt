@@ -17,6 +17,17 @@ use Rattle.board_description.specs.EarlierItems.{same_kind, mixes_classes, kind_
 
 -- ---- a turn of the walk, as the code takes it
 
+-- what the code has read is whether the earlier item mixes classes, and whether it is of the item's kind
+module _ (x y : Item) (b : Before) {mixes same : Bool} (mixed : mixes ≡ mixes_classes x y) (kind : same ≡ same_kind x y) where
+  pub note_other : same ≡ false → record { repeated = b.repeated; mixed = b.mixed || mixes; same = b.same } ≡ noted x b y
+  unfolding noted
+  note_other other = rw (sym kind, sym mixed, other)
+
+  pub note_same : same ≡ true
+      → record { repeated = b.repeated || eqb x.number y.number; mixed = b.mixed || mixes; same = b.same + 1 } ≡ noted x b y
+  unfolding noted
+  note_same one = rw (sym kind, sym mixed, one)
+
 -- at most one more is of the item's kind
 pub noted-few : (x y : Item) (b : Before) → (noted x b y).same ≤ b.same + 1
 unfolding noted

@@ -6,7 +6,8 @@ use mathlib.Core.Path.{◌≡◌, refl, sym, ap, ◌∙◌}
 use mathlib.Core.Bool.{true, false, cond}
 use mathlib.Core.List.{List, [], ◌∷◌, ◌++◌, append_assoc}
 use mathlib.Core.Logic.{⊎_elim}
-use lib.ListN.{length, take, drop, length-drop}
+use lib.ListN.{length, take, drop, length-drop, drop_of_length-le}
+use lib.Seq.{drop-drop}
 use lib.Dec.{eqb}
 use borrow.Author.Tests.{eq-eqb, ne_eqb}
 use Rattle.std.proofs.Math.Seq.{take-append_seam}
@@ -47,6 +48,17 @@ items_first (b ∷ bytes) some =
     (items_enough (length bytes) (length (drop (field_size (item_in (b ∷ bytes))) (b ∷ bytes)))
     (drop (field_size (item_in (b ∷ bytes))) (b ∷ bytes))
     (behind (b ∷ bytes) (item_in (b ∷ bytes)) (length bytes) (omega arith)) (omega arith))
+
+-- the same from a place on
+pub items_at : (bytes : List ℕ) (at : ℕ) → at < length bytes
+    → items_in (drop at bytes) ≡ item_in (drop at bytes) ∷ items_in (drop (at + field_size (item_in (drop at bytes))) bytes)
+items_at bytes at inside =
+    items_first (drop at bytes) (omega (arith, length-drop at bytes))
+    ∙ ap (λ (l : List ℕ). item_in (drop at bytes) ∷ items_in l) (drop-drop (field_size (item_in (drop at bytes))) at bytes)
+
+pub items_end : (bytes : List ℕ) (at : ℕ) → length bytes ≤ at → items_in (drop at bytes) ≡ []
+unfolding items_in
+items_end bytes at past = none_from (length (drop at bytes)) (drop at bytes) (ap length (drop_of_length-le bytes past))
 
 -- there are no more items than bytes
 items_from-few : (n : ℕ) (bytes : List ℕ) → length (items_from n bytes) ≤ n

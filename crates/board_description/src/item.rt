@@ -1,5 +1,5 @@
 // The items of a board description, document 02's L8, in turn. The rules are rules/specs/Description.antt.
-ghost use Rattle.std.specs.Prelude.{◌≡◌, cond, ◌≤◌, eqb};
+ghost use Rattle.std.specs.Prelude.{◌≡◌, cond, ◌≤◌, drop, eqb};
 ghost use Rattle.std.specs.Iterator.{YieldsFirst, item_count};
 ghost use Rattle.rules.specs.Bytes.{byte_at};
 ghost use Rattle.rules.specs.Description.{processor_tag, body_size, field_size, item_in, items_in};
@@ -75,9 +75,17 @@ fn item_in(bytes: &[u8]) -> Item
     }
 }
 
+// The item at place `at` of a description, or none where its tag or length is bad or it is cut; past the
+// end there is none.
+pub fn item_at(description: &[u8], at: usize) -> Item
+    ensures { result ≡ item_in (drop at description.now) }
+{
+    item_in(description.get(at..).unwrap_or(&[]))
+}
+
 // How many bytes the field of an item has.
 #[tactic(auto, unfolding(rules::specs::Description::field_size))]
-fn field_size(item: Item) -> usize
+pub fn field_size(item: Item) -> usize
     ensures { result ≡ field_size item }
 {
     FIELD_HEAD + body_size(item.tag) as usize

@@ -10,7 +10,7 @@ ghost use Rattle.std.specs.Prelude.{◌≡◌};
 ghost use Rattle.rules.specs.Description.{board_verdict};
 
 use crate::fault::fault_of;
-pub use item::{HOST, Items};
+pub use item::{HOST, Items, field_size, item_at};
 use rules::{Fault, Verdict};
 
 // What a description comes to, where `listed` says whether a list or a block was accepted before. The first

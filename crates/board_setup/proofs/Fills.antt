@@ -9,14 +9,15 @@ use lib.ListN.{length}
 use borrow.Author.Tests.{ltb-false}
 use Rattle.rules.specs.declared.Item.{Item}
 use Rattle.rules.specs.Table.{first_of}
-use Rattle.rules.specs.Verdict.{Accepted}
+use Rattle.rules.specs.Verdict.{Verdict, Accepted, accepted}
 use Rattle.rules.specs.Board.{rows}
 use Rattle.rules.specs.Description.{Description, nothing_listed, items_in, is_host, item_table, with_items, description_table, board_verdict, board_of, described}
 use Rattle.rules.proofs.Tests.{decide, cond-true, cond-false}
+use Rattle.rules.proofs.Verdicts.{not_accepted}
 use Rattle.board.specs.Memory.{board_bytes}
 use Rattle.board_description.specs.EarlierItems.{listed_before}
 use Rattle.board_description.proofs.Verdicts.{Clear, item_clear, Reached, reached_start, listed_next, turn-good, turn-accepted, end_listed}
-use Rattle.board_setup.specs.Setup.{row_after, put_item}
+use Rattle.board_setup.specs.Setup.{board_after, row_after, put_item}
 use Rattle.board_setup.proofs.Steps.{put_step, room_found}
 use Rattle.board_setup.proofs.Rows.{row_next}
 
@@ -81,6 +82,18 @@ unfolding described
 fill_end f end = f.memory ∙ ap (λ (d : Description). board_bytes (board_of d)) (sym (end_listed f.reached end))
 
 -- ---- the board call
+
+-- what the code has read is the verdict
+module _ (listed : Bool) (bytes : List ℕ) {v : Verdict} (judged : v ≡ board_verdict listed bytes) where
+  -- a refused description leaves the memory
+  pub offer_refused : {m : List ℕ} → (v ≡ Accepted → ⊥) → m ≡ board_after m listed bytes
+  unfolding board_after
+  offer_refused bad = sym (cond-false _ _ (ap accepted (sym judged) ∙ not_accepted v bad))
+
+  -- an accepted one puts its board there
+  pub offer_taken : (m : List ℕ) → v ≡ Accepted → board_bytes (described bytes) ≡ board_after m listed bytes
+  unfolding board_after accepted
+  offer_taken m good = sym (cond-true _ _ (ap accepted (sym judged ∙ good)))
 
 -- what is accepted is accepted before a list
 pub offer_first : (listed : Bool) (bytes : List ℕ) → board_verdict listed bytes ≡ Accepted → board_verdict listed bytes ≡ board_verdict false bytes

@@ -30,6 +30,20 @@ use Rattle.record.proofs.LentMemory.{store_same, word_stands, own_stands, own_st
 use Rattle.message_operation.specs.declared.Decision.{Decision}
 use Rattle.message_operation.specs.Operation.{subject_row, seen_in, memory_after, decision_on, alone, Carries}
 
+-- ---- what a test of x says of the t that x is
+
+pub told_true : {x t : Bool} → x ≡ t → not x ≡ false → t ≡ true
+told_true is h = sym is ∙ not-false _ h
+
+pub told_false : {x t : Bool} → x ≡ t → not x ≡ true → t ≡ false
+told_false is h = sym is ∙ not-true _ h
+
+-- ---- the board's rows, as the code tests them
+
+row_on : (b : Board) (p : ℕ) → row_of b p < rows → on_board b p ≡ true
+unfolding on_board
+row_on b p h = lt-ltb (row_of b p) rows h
+
 -- ---- the outcome
 
 module _ (k : Kind) (v : View) (q : Query) where
@@ -105,6 +119,17 @@ module _ {b : Board} {k : Kind} {q : Query} {access : List ℕ} {state : Record}
   unfolding carried_out
   off_board_lem whole offered off =
       record { comes = record { is = is_N6 k _ q whole offered off }; refused = refl; early = refl }
+
+module _ {b : Board} {k : Kind} {q : Query} {row : ℕ} {state : Record} (whole : size_of k ≤ length q.message) (offered : not_offered k ≡ false)
+    (here : row ≡ row_of b (processor_of q.message)) (on : row < rows) where
+  pub reached : {state' : Record} → state ≡ state' → Reached b k q row state state'
+  unfolding subject_of
+  reached same =
+      record { whole = le-ltb _ _ whole; offered = offered; here = here; on = row_on b _ (rw here at on); same = same }
+
+  pub loaded_at : {memory : List ℕ} → state ≡ record_at b memory row → Loaded b k q memory row state
+  unfolding subject_of
+  loaded_at {memory} loaded = record { reached = reached (loaded ∙ ap (record_at b memory) here) }
 
 module _ {b : Board} {k : Kind} {q : Query} {row : ℕ} {state state' : Record} (r : Reached b k q row state state') where
   -- the class that the code finds by the row

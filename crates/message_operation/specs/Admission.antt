@@ -3,7 +3,7 @@
 use Rattle.std.specs.Prelude.{ℕ, Bool, not, List, [], ◌∷◌, length, ltb, Result, Ok, Err}
 use Rattle.rules.specs.declared.Refusal.{Refusal}
 use Rattle.rules.specs.declared.Refusal.TheVariants.{N4, N6, N7}
-use Rattle.rules.specs.Table.{Line, ◌gives◌, first_of}
+use Rattle.rules.specs.Table.{◌gives◌, first_of}
 use Rattle.rules.specs.Board.{Board, row_of, on_board}
 use Rattle.rules.specs.Message.{processor_of}
 use Rattle.rules.specs.Outcome.{is_controller}

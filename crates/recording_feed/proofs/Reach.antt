@@ -17,7 +17,7 @@ use Rattle.record.proofs.Kept.{twice}
 use Rattle.recording_texts.specs.Texts.{line_size, laid, has_room, printed}
 use Rattle.recording_stream.specs.Turn.{Turn, behind_line, turn, turn_from}
 use Rattle.recording_stream.proofs.Turn.{turn-carries}
-use Rattle.recording_step.specs.SessionMemory.{SessionMemories, session_in, kept_session}
+use Rattle.recording_step.specs.SessionMemory.{SessionMemories, session_memories, session_in, kept_session}
 use Rattle.recording_step.specs.Fields.{FieldPlayed}
 use Rattle.recording_step.proofs.Fields.{session_kept}
 use Rattle.recording_feed.specs.declared.cursor.Cursor.{Cursor}
@@ -215,3 +215,12 @@ module _ (m₀ m : SessionMemories) (carry₀ : List ℕ) (held₀ : ℕ) (piece
             ∙ ap kept_session (sym stopped.session)
             ∙ ap (λ (u : Turn). u.session) (sym turns-are);
       }
+
+  -- the words stand as the call says
+  pub reach_words : (stand : ℕ) → stand ≡ m.stand
+      → FeedCall m₀ carry₀ held₀ false piece at₀ out₀ (session_memories m.board m.access m.records m.words stand) carry' out' r
+  reach_words stand is =
+      subst⁻¹
+      (λ (k : ℕ). FeedCall m₀ carry₀ held₀ false piece at₀ out₀ (session_memories m.board m.access m.records m.words k) carry' out' r)
+      is
+      reach_told

@@ -1,6 +1,6 @@
 -- The lines of verdicts, byte by byte.
 use Prim.Native.Nat.{ℕ, ◌+◌, ◌-◌, ◌/◌, ◌%◌, ◌≤◌, ◌<◌}
-use mathlib.Core.Path.{◌≡◌, refl, ap, ap₂, ◌∙◌}
+use mathlib.Core.Path.{◌≡◌, refl, sym, ap, ap₂, ◌∙◌}
 use mathlib.Core.List.{List, [], ◌∷◌, ◌++◌}
 use native.Mathlib.Omega.{arith}
 use lib.ListN.{length, take, replicate, length-append, length-replicate}
@@ -67,6 +67,10 @@ plain_line D3 host no_loop no-ten = refl
 plain_line D4 host no_loop no-ten = refl
 plain_line D5 host no_loop no-ten = refl
 plain_line D6 host no_loop no-ten = refl
+
+-- a text told as its eight bytes and their number
+pub told : {line bytes : List ℕ} {count : ℕ} (text : List ℕ) → line ≡ text → bytes ≡ padded text → count ≡ length text → (bytes ≡ padded line) × (count ≡ length line)
+told text is bytes count = (bytes ∙ ap padded (sym is), count ∙ ap length (sym is))
 
 -- ---- read back: of the eight bytes as many as there are
 

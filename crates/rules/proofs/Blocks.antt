@@ -58,11 +58,18 @@ unfolding accepted
 refused_number (Ok _) some high = absurd (omega (arith, some))
 refused_number (Err fault) some high = refl
 
+abbrev pub is_B8 : Verdict → Bool
+is_B8 v = eqb (verdict_number v) 108
+
+pub B8-number : (v : Verdict) → 0 < verdict_number v → verdict_number v < 108 → is_B8 v ≡ false
+B8-number v some high = ne_eqb (verdict_number v) 108 (λ e. omega (arith, e))
+
+-- and so is B8 with one host
 abbrev pub reports : ℕ → Verdict → Bool
-reports h v = eqb (verdict_number v) 108 && eqb (reported_host v) h
+reports h v = is_B8 v && eqb (reported_host v) h
 
 reports-number : (h : ℕ) (v : Verdict) → 0 < verdict_number v → verdict_number v < 108 → reports h v ≡ false
-reports-number h v some high = rw (ne_eqb (verdict_number v) 108 (λ e. omega (arith, e)))
+reports-number h v some high = rw (B8-number v some high)
 
 -- no line of a hierarchy accepts
 pub hierarchy-none : (b : Board) (bytes : List ℕ) → none_good accepted (hierarchy_table b bytes) ≡ true

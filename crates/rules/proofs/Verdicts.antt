@@ -40,8 +40,12 @@ fault_numbered D4 = lit< tt
 fault_numbered D5 = lit< tt
 fault_numbered D6 = lit< tt
 
+-- the number of `Accepted` is none of the refusals' numbers
+pub no_fault : (fault : Fault) → verdict_number (Err fault) ≡ verdict_number Accepted → ⊥
+no_fault fault none = let some = fault_numbered fault in omega (arith, none, some)
+
 -- 0 is the number of what was accepted alone
 pub number_accepts : (v : Verdict) → verdict_number v ≡ 0 → accepted v ≡ true
 unfolding accepted
 number_accepts (Ok _) none = refl
-number_accepts (Err fault) none = absurd (let some = fault_numbered fault in omega (arith, none, some))
+number_accepts (Err fault) none = absurd (no_fault fault none)

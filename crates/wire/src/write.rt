@@ -7,7 +7,7 @@ ghost use Rattle.rules.specs.Bytes.{with_u32};
 
 // Puts a number at place `at`, lowest byte first. Where its four bytes do not fit there, nothing is
 // written.
-#[tactic(auto, using(crate::proofs::Numbers::u32_unfit, crate::proofs::Numbers::u32_put))]
+#[tactic(auto, using(crate::proofs::Numbers::u32_unfit, crate::proofs::Numbers::u32_mid_put))]
 pub fn put_u32(bytes: &mut [u8], at: usize, number: u32)
     ensures { bytes.new ≡ with_u32 bytes.old at number }
 {
