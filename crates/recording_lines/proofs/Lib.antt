@@ -1,5 +1,4 @@
 -- What the proofs of this crate share.
 pub mod Digits
 pub mod Laid
-pub mod OfferLines
 pub mod Offers

@@ -1,4 +1,4 @@
--- The line of an offer: a word put at the start of a line, and a name behind it, in the part of the line that begins there.
+-- The line of an offer: a word at the start of a line, and a name behind it, put into the part of the line that begins there, or laid over the line.
 use Prim.Native.Nat.{ℕ, ◌+◌, ◌-◌, ◌≤◌}
 use mathlib.Core.Path.{◌≡◌, sym, ap, ap₂, ◌∙◌, subst}
 use mathlib.Core.Bool.{cond}
@@ -11,8 +11,10 @@ use lib.Dec.{leb}
 use borrow.Author.Tests.{le-leb}
 use borrow.Rule.Slice.PartMut.{mid_of, put_mid}
 use Rattle.rules.specs.Answer.{buffer_after}
-use Rattle.recording_texts.specs.Texts.{line_size, has_room, printed, Printed}
+use Rattle.recording_texts.specs.Names.{padded}
+use Rattle.recording_texts.specs.Texts.{line_size, laid, has_room, printed, Printed}
 use Rattle.wire.proofs.Puts.{put_over}
+use Rattle.recording_texts.proofs.Lines.{text-short, text-is}
 use Rattle.recording_texts.proofs.Printing.{all_printed}
 
 module _ (line word once : List ℕ) (at : ℕ) (short : length word ≤ length line) (here : at ≡ length word) (put : once ≡ buffer_after word line) where
@@ -53,3 +55,15 @@ module _ (line word once : List ℕ) (at : ℕ) (short : length word ≤ length 
       ∙ put_behind name
       ∙ ap (λ (k : ℕ). (word ++ name) ++ drop k line) (sym (zero-add (length (word ++ name)))))
       (omega arith))
+
+-- as many of the text's eight bytes as it has, however that number is written
+pub offer_laid : (line word name bytes after : List ℕ) (count size end : ℕ) → line_size ≤ length line → length word + 8 ≤ line_size
+    → length bytes ≡ 8 → bytes ≡ padded name → count ≡ length name → count ≡ size
+    → end ≡ length (word ++ take size bytes) → after ≡ laid line 0 (word ++ take size bytes)
+    → Printed line (printed (has_room line) (word ++ name)) after end
+offer_laid line word name bytes after count size end room short eight all long same e a =
+    let few = text-short name all long eight in
+    let is : take size bytes ≡ name = rw same at (text-is name all long) in
+    let sum = length-append word name in
+    let here : end ≡ length (word ++ name) = rw is at e in
+    all_printed line (word ++ name) (has_room line) after end (le-leb line_size (length line) room) here (rw is at a) (omega arith)

@@ -22,7 +22,8 @@ fn append_both(line: &mut [u8], word: &[u8], text: &[u8]) -> usize
 }
 
 // The line of an offer, which begins with `word`. Gives its length: 0 where there is no room, and nothing is
-// written. A text of three or four bytes, as all have but the loop's, is laid without a call of `memcpy`.
+// written. A text of three or four bytes, as all have but the loop's, is laid without a call of `memcpy`; the others
+// are copied out first, so that the text of these two can stay in registers.
 #[inline(always)]
 fn print_offer(line: &mut [u8], word: &[u8], verdict: Verdict) -> usize
     requires { length word.now + text_size ≤ line_size }

@@ -59,7 +59,8 @@ fn loop_text(host: u8) -> Text
     Text::of([b'B', b'8', b' ', hundreds, tens, ones, b'\n'])
 }
 
-// Any verdict. B10 is the one name of three characters.
+// Any verdict. B10 is the one name of three characters. Inlined, so that the text stays in registers until it is
+// printed.
 #[inline(always)]
 pub fn verdict_text(verdict: Verdict) -> Text
     ensures bytes_value { result.bytes ≡ padded (verdict_line (verdict_number verdict) (reported_host verdict)) }

@@ -2,7 +2,7 @@
 use mathlib.Core.Path.{refl}
 use borrow.Author.Rules.{rules}
 use Rattle.rules.specs.Recording.{offer_line}
-use Rattle.recording_lines.proofs.OfferLines.{offer_laid}
+use Rattle.recording_lines.proofs.Offers.{offer_laid}
 use Rattle.recording_lines.proofs.offer.print_offer.Goals as goal
 
 pub returns-in-3 : goal.returns-in-3
