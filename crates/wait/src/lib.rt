@@ -83,13 +83,19 @@ fn run_after(matching: bool, run: usize) -> usize
 pub fn ending_check(w: Wait, status: &[u32]) -> usize
     ensures { result ≡ ending_check w status.now }
 {
-    let matches = usize::from(w.matches);
-    let checked = &status[..usize::from(w.waits).min(status.len())];
+    let waits = w.waits as usize;
+    let matches = w.matches as usize;
     let mut run = 0;
-    for (i, word) in checked.iter().enumerate() {
-        run = run_after(word_matches(w, *word), run);
+    let mut checks = 0;
+    // Not a `for`, which took a quarter to a half more time for each word of a long wait.
+    while checks < waits {
+        if status.len() <= checks {
+            return 0;
+        }
+        run = run_after(word_matches(w, status[checks]), run);
+        checks += 1;
         if matches <= run {
-            return i + 1;
+            return checks;
         }
     }
     0
